@@ -1,0 +1,51 @@
+//! The reference reader, built from its own files, and what this project asks of it.
+//!
+//! The reference's crate root and its `Error` type are not among the given files. This file stands
+//! in for both. `readings` and `enumerate` are ours; they are modules of the same crate because
+//! the constructors of the reference's records are `pub(crate)`.
+
+// One `mod` for each of the reference's files, written by `build.rs`.
+include!(concat!(env!("OUT_DIR"), "/modules.rs"));
+
+pub mod enumerate;
+pub mod readings;
+
+pub use arraydesc::{ArrayDesc, SafeArrayBound};
+pub use custdata::CustDataEntry;
+pub use func::FuncRecord;
+pub use guid::Guid;
+pub use guidentry::GuidEntry;
+pub use impfile::ImpFile;
+pub use impinfo::ImpInfo;
+pub use iterators::{
+    CustDataIter, FuncIter, GuidEntryIter, ImpFileIter, ImpInfoIter, ImplTypeIter, NameIter,
+    ParamIter, TypeInfoIter, VarIter,
+};
+pub use name::NameEntry;
+pub use param::ParameterInfo;
+pub use refrecord::RefRecord;
+pub use typeinfo::TypeInfoEntry;
+pub use typelib::{ResolvedHreftype, TypeLib};
+pub use types::{ConstValue, TypeDescription, TypeKind, vt_name};
+pub use var::VarRecord;
+
+/// Stand-in for the reference's error type: its cases, with the fields that the given files set.
+#[derive(Clone, Copy, Debug, PartialEq, Eq)]
+pub enum Error {
+    TooShort {
+        expected: usize,
+        actual: usize,
+        context: &'static str,
+    },
+    BadMagic {
+        expected: u32,
+        got: u32,
+    },
+    InvalidData {
+        context: &'static str,
+    },
+    TypeInfoOutOfRange {
+        index: usize,
+        count: usize,
+    },
+}

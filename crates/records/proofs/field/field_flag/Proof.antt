@@ -1,0 +1,36 @@
+use borrow.Author.Needs.{needs}
+use Rattle.records.proofs.field.field_flag.Statement.{statement}
+use Rattle.records.proofs.field.field_flag.Tie as tie
+use Rattle.records.proofs.field.field_flag.Reads as reads
+use Rattle.records.proofs.field.field_flag.Lts as lts
+use Rattle.records.proofs.field.field_u32.Reads as field-u32-reads
+use Rattle.util.proofs.bits.Reads as bits-reads
+
+-- src/field.rt:190:11
+field-u32-requires : tie.Need-field-u32-requires
+field-u32-requires c κs = search needs
+
+-- src/field.rt:191:26
+enum-known-x : tie.Need-enum-known-x
+enum-known-x c = search needs
+
+-- src/field.rt:191:50
+bits-requires : tie.Need-bits-requires
+bits-requires c κs = search needs
+
+-- src/field.rt:192:28
+enum-known-n : tie.Need-enum-known-n
+enum-known-n c = search needs
+
+-- src/field.rt:180:1
+returns : tie.Need-returns
+returns c = ?
+
+-- src/field.rt:180:1
+returns-2 : tie.Need-returns-2
+returns-2 c = ?
+
+pub field-flag-spec : {M : Type 1} → statement M
+field-flag-spec =
+    tie.close
+    (tie.spec field-u32-requires enum-known-x bits-requires enum-known-n returns returns-2)

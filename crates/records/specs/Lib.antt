@@ -1,0 +1,7 @@
+-- The definitions that the contracts of `records` cite, and the laws that callers use of them.
+pub mod Answer
+pub mod Layout
+pub mod Automation
+pub mod Record
+pub mod RecordLaws
+pub mod Told

@@ -1,0 +1,3 @@
+pub mod answer;
+mod field;
+pub mod param;
