@@ -8,7 +8,6 @@ use Prim.Native.String.{String}
 use lib.Text.{eqt}
 
 infix 20 _of_
-
 pub record Field : Type 0 where
   pub name : String
   pub width : ℕ

@@ -43,6 +43,10 @@ fieldAt w fixed offset s at len = map (λ p. le w s (p .at)) (fieldPlace w fixed
 abbrev pub field : Layout → String → List ℕ → ℕ → ℕ → Answer ℕ
 field l name s at len = fieldAt (widthOf l name) (sizeOf l) (offsetOf l name) s at len
 
+-- the place of the field of that name
+abbrev pub placeOf : Layout → String → List ℕ → ℕ → ℕ → Answer Place
+placeOf l name s at len = fieldPlace (widthOf l name) (sizeOf l) (offsetOf l name) s at len
+
 -- a stored number as a signed one, by two's complement
 abbrev pub signed16 : Answer ℕ → Answer ℤ
 signed16 = map (toZ w16)

@@ -1,19 +1,19 @@
 -- Laws of `Record`, over the width, the offset and the fixed part. Assumes nothing.
 use mathlib.Core.Path.{_≡_, refl, sym, _∙_, ap}
 use mathlib.Core.Bool.{cond}
-use mathlib.Core.List.{List}
+use mathlib.Core.List.{List, []}
 use mathlib.Core.Option.{some, none}
 use Prim.Native.Nat.{ℕ, _+_, _/_, _%_, _^_, _≤_, _<_}
 use native.Mathlib.Nat.{mod-lt, lt-of-lt-of-le}
 use native.Mathlib.Omega.{arith}
 use lib.Dec.{leb, ltb}
-use lib.ListN.{length}
+use lib.ListN.{length, take, drop}
 use lib.Pow.{pow-pos, pow-mono}
 use borrow.Author.Tests.{le-leb, lt-leb, le-ltb, lt-ltb, leb-true, ltb-false}
 use Rattle.util.specs.Read.{le, read, cond-elim, some-read, none-read}
 use Rattle.records.specs.declared.answer.Place.{Place}
 use Rattle.records.specs.Answer.{Answer, value, refused, map, bind}
-use Rattle.records.specs.Record.{limit, held, fieldPlace, fieldAt}
+use Rattle.records.specs.Record.{limit, held, fieldPlace, fieldAt, partOf}
 
 -- ---- `held`, by its four cases
 
@@ -113,3 +113,23 @@ module _ (w fixed offset : ℕ) (s : List ℕ) (at len : ℕ) where
 -- so many bits stay below that power of two
 pub bits-lt : (n low k most : ℕ) → k ≤ most → n / 2 ^ low % 2 ^ k < 2 ^ most
 bits-lt n low k most h = lt-of-lt-of-le (mod-lt (n / 2 ^ low) (pow-pos k)) (pow-mono h)
+
+-- the same bits, where their count is known by another name
+pub bits-most : (n low k j r : ℕ) → r ≡ n / 2 ^ low % 2 ^ k → k ≡ j → r ≡ n / 2 ^ low % 2 ^ j
+bits-most n low k j r e h = e ∙ ap (λ (i : ℕ). n / 2 ^ low % 2 ^ i) h
+
+-- ---- a part of the list
+
+module _ (s : List ℕ) where
+  pub part-refused : (a : Answer Place) (n : ℕ) → refused n ≡ a → [] ≡ partOf s a
+  unfolding partOf
+  part-refused a n e = ap (partOf s) e
+
+  pub part-outside : (a : Answer Place) (p : Place) → value p ≡ a → length s < p .at + p .len → [] ≡ partOf s a
+  unfolding partOf
+  part-outside a p e h = sym (rw (lt-leb (p .at + p .len) (length s) h)) ∙ ap (partOf s) e
+
+  pub part-inside : (a : Answer Place) (p : Place) (n : ℕ) → value p ≡ a → n ≡ p .len → p .at + p .len ≤ length s → take n (drop (p .at) s) ≡ partOf s a
+  unfolding partOf
+  part-inside a p n e l h =
+      ap (λ (k : ℕ). take k (drop (p .at) s)) l ∙ sym (rw (le-leb (p .at + p .len) (length s) h)) ∙ ap (partOf s) e

@@ -20,6 +20,13 @@ use Rattle.records.specs.declared.answer.UsizeAnswer.{UsizeAnswer}
 use Rattle.records.specs.declared.answer.UsizeAnswer.the-variants as usize
 use Rattle.records.specs.declared.answer.PlaceAnswer.{PlaceAnswer}
 use Rattle.records.specs.declared.answer.PlaceAnswer.the-variants as place
+use Rattle.records.specs.declared.arraydesc.SafeArrayBound.{SafeArrayBound}
+use Rattle.records.specs.declared.arraydesc.BoundAnswer.{BoundAnswer}
+use Rattle.records.specs.declared.arraydesc.BoundAnswer.the-variants as bound
+use Rattle.records.specs.declared.guidentry.GuidAnswer.{GuidAnswer}
+use Rattle.records.specs.declared.guidentry.GuidAnswer.the-variants as guid
+use Rattle.records.specs.declared.var.VarAnswer.{VarAnswer}
+use Rattle.records.specs.declared.var.VarAnswer.the-variants as var
 use Rattle.records.specs.declared.field.Held.{Held}
 use Rattle.records.specs.declared.field.Held.the-variants as held
 
@@ -58,3 +65,16 @@ toldPlace (place.Refused n) = refused n
 abbrev pub toldHeld : Held → Answer Unit
 toldHeld held.Inside = value tt
 toldHeld (held.Refused n) = refused n
+
+-- a record that was answered is its place
+abbrev pub toldVar : VarAnswer → Answer Place
+toldVar (var.Value v) = value (record { at = v .at; len = v .len })
+toldVar (var.Refused n) = refused n
+
+abbrev pub toldGuid : GuidAnswer → Answer Place
+toldGuid (guid.Value g) = value (record { at = g .at; len = g .len })
+toldGuid (guid.Refused n) = refused n
+
+abbrev pub toldBound : BoundAnswer → Answer SafeArrayBound
+toldBound (bound.Value b) = value b
+toldBound (bound.Refused n) = refused n

@@ -1,6 +1,7 @@
 // What a reading replies: the value, or the number of the refusal from document 01.
 ghost use mathlib.Core.Path.{_≡_};
 ghost use Rattle.records.specs.Record.{partOf};
+ghost use Rattle.records.specs.Counted.{textOf};
 ghost use Rattle.records.specs.Told.{toldPlace};
 
 // Bytes of the lent library: where they start, and how many they are.
@@ -67,4 +68,20 @@ pub fn part(s: &[u8], answer: PlaceAnswer) -> &[u8]
     }
     let end = at + len;
     &s[at..end]
+}
+
+// The place, where its bytes are text in UTF-8; else 9.
+pub fn text(s: &[u8], answer: PlaceAnswer) -> PlaceAnswer
+    ensures { λ r. ⌜ toldPlace r ≡ textOf (now (s .entry)) (toldPlace answer) ⌝ }
+{
+    match answer {
+        PlaceAnswer::Value(place) => {
+            if util::utf8::is_utf8(part(s, PlaceAnswer::Value(place))) {
+                PlaceAnswer::Value(place)
+            } else {
+                PlaceAnswer::Refused(9)
+            }
+        }
+        PlaceAnswer::Refused(n) => PlaceAnswer::Refused(n),
+    }
 }

@@ -5,9 +5,9 @@ use crate::answer::I16Answer;
 use crate::answer::I32Answer;
 use crate::answer::Place;
 use crate::answer::PlaceAnswer;
+use crate::answer::U8Answer;
 use crate::answer::U16Answer;
 use crate::answer::U32Answer;
-use crate::answer::U8Answer;
 use crate::answer::UsizeAnswer;
 ghost use mathlib.Core.Path.{_≡_};
 ghost use Prim.Native.Nat.{_+_, _%_, _^_, min};
@@ -196,9 +196,5 @@ pub fn field_flag(
 fn least(a: u32, b: u32) -> u32
     ensures { λ r. ⌜ r ≡ min a b ⌝ }
 {
-    if a < b {
-        a
-    } else {
-        b
-    }
+    if a < b { a } else { b }
 }

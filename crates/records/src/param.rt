@@ -5,10 +5,10 @@ use crate::answer::U32Answer;
 use crate::field;
 ghost use mathlib.Core.Path.{_≡_};
 ghost use Rattle.records.specs.Answer.{map};
+ghost use Rattle.records.specs.Automation.{PARAMFLAG-FIN, PARAMFLAG-FOUT, PARAMFLAG-FRETVAL, PARAMFLAG-FOPT};
 ghost use Rattle.records.specs.Layout.{parameterInfo};
 ghost use Rattle.records.specs.Record.{field, signed32, flagSet};
-ghost use Rattle.records.specs.Automation.{FIN, FOUT, FRETVAL, FOPT};
-ghost use Rattle.records.specs.Told.{toldU32, toldI32, toldBool};
+ghost use Rattle.records.specs.Told.{toldBool, toldI32, toldU32};
 
 pub struct ParameterInfo {
     pub at: usize,
@@ -18,7 +18,8 @@ pub struct ParameterInfo {
 impl ParameterInfo {
     pub const SIZE: usize = 12;
 
-    // The parameter's type field.
+    // The parameter's type field: negative for a base type, else an offset into the type-descriptor
+    // table.
     pub fn datatype(self, s: &[u8]) -> I32Answer
         ensures { λ r. ⌜ toldI32 r ≡ signed32 (field parameterInfo "DataType" (now (s .entry)) (self .at) (self .len)) ⌝ }
     {
@@ -32,6 +33,7 @@ impl ParameterInfo {
         field::field_i32(s, self.at, self.len, Self::SIZE, 0x04)
     }
 
+    // PARAMFLAG bits.
     pub fn flags(self, s: &[u8]) -> U32Answer
         ensures { λ r. ⌜ toldU32 r ≡ field parameterInfo "Flags" (now (s .entry)) (self .at) (self .len) ⌝ }
     {
@@ -39,8 +41,26 @@ impl ParameterInfo {
     }
 
     pub fn is_in(self, s: &[u8]) -> BoolAnswer
-        ensures { λ r. ⌜ toldBool r ≡ map (flagSet FIN) (field parameterInfo "Flags" (now (s .entry)) (self .at) (self .len)) ⌝ }
+        ensures { λ r. ⌜ toldBool r ≡ map (flagSet PARAMFLAG-FIN) (field parameterInfo "Flags" (now (s .entry)) (self .at) (self .len)) ⌝ }
     {
         field::field_flag(s, self.at, self.len, Self::SIZE, 0x08, 0)
+    }
+
+    pub fn is_out(self, s: &[u8]) -> BoolAnswer
+        ensures { λ r. ⌜ toldBool r ≡ map (flagSet PARAMFLAG-FOUT) (field parameterInfo "Flags" (now (s .entry)) (self .at) (self .len)) ⌝ }
+    {
+        field::field_flag(s, self.at, self.len, Self::SIZE, 0x08, 1)
+    }
+
+    pub fn is_retval(self, s: &[u8]) -> BoolAnswer
+        ensures { λ r. ⌜ toldBool r ≡ map (flagSet PARAMFLAG-FRETVAL) (field parameterInfo "Flags" (now (s .entry)) (self .at) (self .len)) ⌝ }
+    {
+        field::field_flag(s, self.at, self.len, Self::SIZE, 0x08, 3)
+    }
+
+    pub fn is_optional(self, s: &[u8]) -> BoolAnswer
+        ensures { λ r. ⌜ toldBool r ≡ map (flagSet PARAMFLAG-FOPT) (field parameterInfo "Flags" (now (s .entry)) (self .at) (self .len)) ⌝ }
+    {
+        field::field_flag(s, self.at, self.len, Self::SIZE, 0x08, 4)
     }
 }

@@ -8,32 +8,22 @@ use mathlib.Core.Path.{_∙_, ap, sym}
 use borrow.Author.Needs.{needs}
 use Rattle.util.proofs.read_i16_le.Statement.{statement}
 use Rattle.util.proofs.read_i16_le.Tie as tie
-use Rattle.util.proofs.read_i16_le.Reads as reads
-use Rattle.util.proofs.read_i16_le.Lts as lts
-use Rattle.util.proofs.read_u16_le.Reads as read-u16-le-reads
-use Rattle.util.proofs.signed16.Reads as signed16-reads
 
--- src/lib.rt:119:11
 read-u16-le-requires : tie.Need-read-u16-le-requires
 read-u16-le-requires c κs = search needs
 
--- src/lib.rt:120:24
 enum-known-x : tie.Need-enum-known-x
 enum-known-x c = search needs
 
--- src/lib.rt:120:45
 signed16-requires : tie.Need-signed16-requires
 signed16-requires c κs = search needs
 
--- src/lib.rt:121:29
 enum-told : tie.Need-enum-told
 enum-told c = search needs
 
--- src/lib.rt:116:1
 returns : tie.Need-returns
 returns c = ap some (toZ-ofZ w16 _ (record { sfits = c .signed16 .ok }) ∙ c .signed16 .ensures) ∙ ap (mapped (toZ w16)) (sym (ap toldU16 (c .before .before .x .given .1)) ∙ c .before .before .before .before .read-u16-le .ensures)
 
--- src/lib.rt:116:1
 returns-2 : tie.Need-returns-2
 returns-2 c = ap (mapped (toZ w16)) (sym (ap toldU16 (c .enum-told .given .1)) ∙ c .before .before .read-u16-le .ensures)
 

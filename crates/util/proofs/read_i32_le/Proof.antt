@@ -8,32 +8,22 @@ use mathlib.Core.Path.{_∙_, ap, sym}
 use borrow.Author.Needs.{needs}
 use Rattle.util.proofs.read_i32_le.Statement.{statement}
 use Rattle.util.proofs.read_i32_le.Tie as tie
-use Rattle.util.proofs.read_i32_le.Reads as reads
-use Rattle.util.proofs.read_i32_le.Lts as lts
-use Rattle.util.proofs.read_u32_le.Reads as read-u32-le-reads
-use Rattle.util.proofs.signed32.Reads as signed32-reads
 
--- src/lib.rt:128:11
 read-u32-le-requires : tie.Need-read-u32-le-requires
 read-u32-le-requires c κs = search needs
 
--- src/lib.rt:129:24
 enum-known-x : tie.Need-enum-known-x
 enum-known-x c = search needs
 
--- src/lib.rt:129:45
 signed32-requires : tie.Need-signed32-requires
 signed32-requires c κs = search needs
 
--- src/lib.rt:130:29
 enum-told : tie.Need-enum-told
 enum-told c = search needs
 
--- src/lib.rt:125:1
 returns : tie.Need-returns
 returns c = ap some (toZ-ofZ w32 _ (record { sfits = c .signed32 .ok }) ∙ c .signed32 .ensures) ∙ ap (mapped (toZ w32)) (sym (ap toldU32 (c .before .before .x .given .1)) ∙ c .before .before .before .before .read-u32-le .ensures)
 
--- src/lib.rt:125:1
 returns-2 : tie.Need-returns-2
 returns-2 c = ap (mapped (toZ w32)) (sym (ap toldU32 (c .enum-told .given .1)) ∙ c .before .before .read-u32-le .ensures)
 

@@ -8,32 +8,22 @@ use mathlib.Core.Path.{_∙_, ap, sym}
 use borrow.Author.Needs.{needs}
 use Rattle.util.proofs.read_i64_le.Statement.{statement}
 use Rattle.util.proofs.read_i64_le.Tie as tie
-use Rattle.util.proofs.read_i64_le.Reads as reads
-use Rattle.util.proofs.read_i64_le.Lts as lts
-use Rattle.util.proofs.read_u64_le.Reads as read-u64-le-reads
-use Rattle.util.proofs.signed64.Reads as signed64-reads
 
--- src/lib.rt:149:11
 read-u64-le-requires : tie.Need-read-u64-le-requires
 read-u64-le-requires c κs = search needs
 
--- src/lib.rt:150:24
 enum-known-x : tie.Need-enum-known-x
 enum-known-x c = search needs
 
--- src/lib.rt:150:45
 signed64-requires : tie.Need-signed64-requires
 signed64-requires c κs = search needs
 
--- src/lib.rt:151:29
 enum-told : tie.Need-enum-told
 enum-told c = search needs
 
--- src/lib.rt:146:1
 returns : tie.Need-returns
 returns c = ap some (toZ-ofZ w64 _ (record { sfits = c .signed64 .ok }) ∙ c .signed64 .ensures) ∙ ap (mapped (toZ w64)) (sym (ap toldU64 (c .before .before .x .given .1)) ∙ c .before .before .before .before .read-u64-le .ensures)
 
--- src/lib.rt:146:1
 returns-2 : tie.Need-returns-2
 returns-2 c = ap (mapped (toZ w64)) (sym (ap toldU64 (c .enum-told .given .1)) ∙ c .before .before .read-u64-le .ensures)
 

@@ -3,23 +3,16 @@ use native.Mathlib.Omega.{arith}
 use borrow.Author.Needs.{needs}
 use Rattle.util.proofs.read_u16_le.Statement.{statement}
 use Rattle.util.proofs.read_u16_le.Tie as tie
-use Rattle.util.proofs.read_u16_le.Reads as reads
-use Rattle.util.proofs.read_u16_le.Lts as lts
-use Rattle.util.proofs.pair.Reads as pair-reads
 
--- src/lib.rt:98:35
 pair-requires : tie.Need-pair-requires
 pair-requires c κs = search needs
 
--- src/lib.rt:98:13
 returns : tie.Need-returns
 returns c = read-some 2 (c .before .before .before .before .args .s .now) (c .before .before .before .before .args .at) _ (omega arith) (c .pair .ensures)
 
--- src/lib.rt:92:1
 returns-2 : tie.Need-returns-2
 returns-2 c = read-none 2 (c .before .before .before .args .s .now) (c .before .before .before .args .at) (omega arith)
 
--- src/lib.rt:92:1
 returns-3 : tie.Need-returns-3
 returns-3 c = read-none 2 (c .before .before .args .s .now) (c .before .before .args .at) (omega arith)
 

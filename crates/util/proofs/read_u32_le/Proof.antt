@@ -3,23 +3,16 @@ use native.Mathlib.Omega.{arith}
 use borrow.Author.Needs.{needs}
 use Rattle.util.proofs.read_u32_le.Statement.{statement}
 use Rattle.util.proofs.read_u32_le.Tie as tie
-use Rattle.util.proofs.read_u32_le.Reads as reads
-use Rattle.util.proofs.read_u32_le.Lts as lts
-use Rattle.util.proofs.quad.Reads as quad-reads
 
--- src/lib.rt:110:35
 quad-requires : tie.Need-quad-requires
 quad-requires c κs = search needs
 
--- src/lib.rt:110:13
 returns : tie.Need-returns
 returns c = read-some 4 (c .before .before .before .before .args .s .now) (c .before .before .before .before .args .at) _ (omega arith) (c .quad .ensures)
 
--- src/lib.rt:104:1
 returns-2 : tie.Need-returns-2
 returns-2 c = read-none 4 (c .before .before .before .args .s .now) (c .before .before .before .args .at) (omega arith)
 
--- src/lib.rt:104:1
 returns-3 : tie.Need-returns-3
 returns-3 c = read-none 4 (c .before .before .args .s .now) (c .before .before .args .at) (omega arith)
 

@@ -3,23 +3,16 @@ use native.Mathlib.Omega.{arith}
 use borrow.Author.Needs.{needs}
 use Rattle.util.proofs.read_u64_le.Statement.{statement}
 use Rattle.util.proofs.read_u64_le.Tie as tie
-use Rattle.util.proofs.read_u64_le.Reads as reads
-use Rattle.util.proofs.read_u64_le.Lts as lts
-use Rattle.util.proofs.octet.Reads as octet-reads
 
--- src/lib.rt:140:35
 octet-requires : tie.Need-octet-requires
 octet-requires c κs = search needs
 
--- src/lib.rt:140:13
 returns : tie.Need-returns
 returns c = read-some 8 (c .before .before .before .before .args .s .now) (c .before .before .before .before .args .at) _ (omega arith) (c .octet .ensures)
 
--- src/lib.rt:134:1
 returns-2 : tie.Need-returns-2
 returns-2 c = read-none 8 (c .before .before .before .args .s .now) (c .before .before .before .args .at) (omega arith)
 
--- src/lib.rt:134:1
 returns-3 : tie.Need-returns-3
 returns-3 c = read-none 8 (c .before .before .args .s .now) (c .before .before .args .at) (omega arith)
 

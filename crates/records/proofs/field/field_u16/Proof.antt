@@ -5,44 +5,31 @@ use mathlib.Core.Path.{_∙_, ap, sym}
 use borrow.Author.Needs.{needs}
 use Rattle.records.proofs.field.field_u16.Statement.{statement}
 use Rattle.records.proofs.field.field_u16.Tie as tie
-use Rattle.records.proofs.field.field_u16.Reads as reads
-use Rattle.records.proofs.field.field_u16.Lts as lts
-use Rattle.records.proofs.field.field_place.Reads as field-place-reads
-use Rattle.util.proofs.read_u16_le.Reads as read-u16-le-reads
 
--- src/field.rt:86:11
 field-place-requires : tie.Need-field-place-requires
 field-place-requires c κs = search needs
 
--- src/field.rt:87:28
 enum-known-place : tie.Need-enum-known-place
 enum-known-place c = search needs
 
--- src/field.rt:87:44
 read-u16-le-requires : tie.Need-read-u16-le-requires
 read-u16-le-requires c κs = search needs
 
--- src/field.rt:88:34
 enum-known-x : tie.Need-enum-known-x
 enum-known-x c = search needs
 
--- src/field.rt:89:39
 enum-told : tie.Need-enum-told
 enum-told c = search needs
 
--- src/field.rt:91:30
 enum-known-n : tie.Need-enum-known-n
 enum-known-n c = search needs
 
--- src/field.rt:83:1
 returns : tie.Need-returns
 returns c = field-value 2 _ _ _ _ _ _ _ (sym (ap toldPlace (c .before .before .before .before .before .place .given .1)) ∙ c .before .before .before .before .before .before .before .field-place .ensures) (sym (ap toldU16 (c .before .x .given .1)) ∙ c .before .before .before .read-u16-le .ensures)
 
--- src/field.rt:83:1
 returns-2 : tie.Need-returns-2
 returns-2 c = field-never 2 _ _ _ _ _ _ (sym (ap toldPlace (c .before .before .before .before .place .given .1)) ∙ c .before .before .before .before .before .before .field-place .ensures) (sym (ap toldU16 (c .enum-told .given .1)) ∙ c .before .before .read-u16-le .ensures)
 
--- src/field.rt:83:1
 returns-3 : tie.Need-returns-3
 returns-3 c = field-refused 2 _ _ _ _ _ _ (sym (ap toldPlace (c .before .n .given .1)) ∙ c .before .before .before .field-place .ensures)
 

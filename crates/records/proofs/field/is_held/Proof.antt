@@ -2,26 +2,19 @@ use Rattle.records.specs.RecordLaws.{held-long, held-short, held-outside
 use native.Mathlib.Omega.{arith}
 use Rattle.records.proofs.field.is_held.Statement.{statement}
 use Rattle.records.proofs.field.is_held.Tie as tie
-use Rattle.records.proofs.field.is_held.Reads as reads
-use Rattle.records.proofs.field.is_held.Lts as lts
 
--- src/field.rt:31:9
 returns : tie.Need-returns
 returns c = held-long _ _ _ _ (c .if1 .taken)
 
--- src/field.rt:34:9
 returns-2 : tie.Need-returns-2
 returns-2 c = held-short _ _ _ _ (c .before .if1 .left) (c .if2 .taken)
 
--- src/field.rt:37:9
 returns-3 : tie.Need-returns-3
 returns-3 c = held-outside _ _ _ _ (c .before .before .if1 .left) (c .before .if2 .left) (omega arith)
 
--- src/field.rt:40:9
 returns-4 : tie.Need-returns-4
 returns-4 c = held-outside _ _ _ _ (c .before .before .before .if1 .left) (c .before .before .if2 .left) (omega arith)
 
--- src/field.rt:26:1
 returns-5 : tie.Need-returns-5
 returns-5 c = held-inside _ _ _ _ (c .before .before .before .if1 .left) (c .before .before .if2 .left) (omega arith)
 

@@ -1,0 +1,4 @@
+pub struct Guid {
+    pub at: usize,
+    pub len: usize,
+}
