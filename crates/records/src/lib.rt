@@ -5,7 +5,7 @@
 // its fixed part, 1 where more than 16,777,216 bytes are lent. Nothing is asked of the caller.
 pub mod answer;
 pub mod arraydesc;
-mod field;
+pub mod field;
 pub mod func;
 pub mod guid;
 pub mod guidentry;

@@ -25,6 +25,11 @@ abbrev pub mapped : {A B : Type 0} → (A → B) → Option A → Option B
 mapped f none = none
 mapped f (some a) = some (f a)
 
+-- the value, or 0 if there is none
+abbrev pub orZero : Option ℕ → ℕ
+orZero none = 0
+orZero (some n) = n
+
 -- ---- laws of `le`, over the width
 
 -- the first `a` digits, and above them the other `b`
@@ -81,6 +86,15 @@ none-read w s at =
     cond-elim (λ r. none ≡ r → length s < at + w) (leb (at + w) (length s)) (some (le w s at)) none
     (λ h e. let z : _≡_ {A = ℕ} 0 1 = cc in absurd (omega arith))
     (λ h e. leb-false (at + w) (length s) h)
+
+-- a number that stands inside the list
+pub read-zero : (w : ℕ) (s : List ℕ) (at r : ℕ) → at + w ≤ length s → r ≡ orZero (read w s at) → r ≡ le w s at
+read-zero w s at r h e = e ∙ ap orZero (sym (read-some w s at (le w s at) h refl))
+
+-- one byte
+pub le-byte : (s : List ℕ) (at : ℕ) → le 1 s at ≡ getD s at 0
+unfolding le
+le-byte s at = omega arith
 
 -- a complement, taken twice
 pub twice : (m x : ℕ) → x ≤ m → m - (m - x) ≡ x

@@ -9,7 +9,7 @@ ghost use lib.Ieee.{binary32, binary64};
 ghost use mathlib.Core.Option.{some};
 ghost use mir.Syntax.{w8, w16, w32, w64};
 ghost use mir.Val.{toZ, ofZ};
-ghost use Rattle.util.specs.Read.{le, read, mapped};
+ghost use Rattle.util.specs.Read.{le, read, mapped, orZero};
 ghost use Rattle.util.specs.Real.{realOf};
 ghost use Rattle.util.specs.Told.{toldU16, toldU32, toldU64, toldI16, toldI32, toldI64, toldF32, toldF64};
 
@@ -167,6 +167,41 @@ pub fn read_f64_le(s: &[u8], at: usize) -> F64Read
     match read_u64_le(s, at) {
         U64Read::Value(x) => float64(x),
         U64Read::Nothing => F64Read::Nothing,
+    }
+}
+
+// The number of the bytes at `at`, or 0 where they do not all stand in the slice: the source's
+// `unwrap_or(0)`, for callers that know that they do.
+pub fn u8_or_zero(s: &[u8], at: usize) -> u8
+    ensures { λ r. ⌜ r ≡ orZero (read 1 (now (s .entry)) at) ⌝ }
+{
+    if at < s.len() { s[at] } else { 0 }
+}
+
+pub fn u16_or_zero(s: &[u8], at: usize) -> u16
+    ensures { λ r. ⌜ r ≡ orZero (read 2 (now (s .entry)) at) ⌝ }
+{
+    match read_u16_le(s, at) {
+        U16Read::Value(x) => x,
+        U16Read::Nothing => 0,
+    }
+}
+
+pub fn u32_or_zero(s: &[u8], at: usize) -> u32
+    ensures { λ r. ⌜ r ≡ orZero (read 4 (now (s .entry)) at) ⌝ }
+{
+    match read_u32_le(s, at) {
+        U32Read::Value(x) => x,
+        U32Read::Nothing => 0,
+    }
+}
+
+pub fn u64_or_zero(s: &[u8], at: usize) -> u64
+    ensures { λ r. ⌜ r ≡ orZero (read 8 (now (s .entry)) at) ⌝ }
+{
+    match read_u64_le(s, at) {
+        U64Read::Value(x) => x,
+        U64Read::Nothing => 0,
     }
 }
 

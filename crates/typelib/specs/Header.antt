@@ -1,0 +1,92 @@
+-- The header of a library and its directory of segments (Wine's typelib.h), and what `parse` makes of them (document 01).
+-- Assumes nothing.
+use mathlib.Core.Bool.{cond}
+use mathlib.Core.List.{List, [], _∷_}
+use Prim.Native.Nat.{ℕ, _+_, _*_}
+use Prim.Native.String.{String}
+use lib.Dec.{leb, ltb, eqb}
+use lib.ListN.{length, replicate}
+use Rattle.util.specs.Read.{le}
+use Rattle.records.specs.Answer.{Answer, value, refused}
+use Rattle.records.specs.Layout.{Layout, _of_, sizeOf, offsetOf, widthOf}
+use Rattle.records.specs.Record.{limit, flagSet}
+use Rattle.typelib.specs.Tabulate.{tabulate}
+use Rattle.typelib.specs.declared.Segment.{Segment}
+use Rattle.typelib.specs.declared.TypeLib.{TypeLib}
+use Rattle.typelib.specs.declared.Parsed.{Parsed}
+
+-- MSFT_Header
+abbrev pub header : Layout
+header =
+    ("magic1" of 4)
+    ∷ ("magic2" of 4)
+    ∷ ("posguid" of 4)
+    ∷ ("lcid" of 4)
+    ∷ ("lcid2" of 4)
+    ∷ ("varflags" of 4)
+    ∷ ("version" of 4)
+    ∷ ("flags" of 4)
+    ∷ ("nrtypeinfos" of 4)
+    ∷ ("helpstring" of 4)
+    ∷ ("helpstringcontext" of 4)
+    ∷ ("helpcontext" of 4)
+    ∷ ("nametablecount" of 4)
+    ∷ ("nametablechars" of 4)
+    ∷ ("NameOffset" of 4)
+    ∷ ("helpfile" of 4)
+    ∷ ("CustomDataOffset" of 4)
+    ∷ ("res44" of 4)
+    ∷ ("res48" of 4)
+    ∷ ("dispatchpos" of 4)
+    ∷ ("nimpinfos" of 4)
+    ∷ []
+
+-- MSFT_SIGNATURE, and HELPDLLFLAG in `varflags`
+abbrev pub signature : ℕ
+signature = 0x5446534d
+
+abbrev pub helpDllFlag : ℕ
+helpDllFlag = 0x100
+
+-- MSFT_pSeg, of which there are fifteen
+abbrev pub pSeg : Layout
+pSeg = ("offset" of 4) ∷ ("length" of 4) ∷ ("res08" of 4) ∷ ("res0c" of 4) ∷ []
+
+-- the four bytes of a header field
+abbrev pub word : String → List ℕ → ℕ
+word name s = le 4 s (offsetOf header name)
+
+-- the offset table starts behind the header, four bytes later where the flag is set
+abbrev pub tableAt : List ℕ → ℕ
+tableAt s = sizeOf header + cond (flagSet helpDllFlag (word "varflags" s)) 4 0
+
+-- behind one offset a typeinfo stands the directory
+abbrev pub directoryAt : List ℕ → ℕ
+directoryAt s = tableAt s + 4 * word "nrtypeinfos" s
+
+abbrev pub segmentAt : List ℕ → ℕ → Segment
+segmentAt s at = record { offset = le 4 s at; length = le 4 s (at + widthOf pSeg "offset") }
+
+abbrev pub segmentsAt : List ℕ → ℕ → List Segment
+segmentsAt s at = tabulate (λ i. segmentAt s (at + sizeOf pSeg * i)) 15
+
+unfoldable pub libraryOf : List ℕ → TypeLib
+libraryOf s = record { segments = segmentsAt s (directoryAt s); count = word "nrtypeinfos" s; table = tableAt s }
+
+-- a library, or refusal 1 over-long, 2 short header, 3 wrong magic, 4 bad count, 5 short directory
+unfoldable pub parseOf : List ℕ → Answer TypeLib
+parseOf s =
+    cond (ltb limit (length s)) (refused 1)
+    (cond (ltb (length s) (sizeOf header)) (refused 2)
+    (cond (eqb (word "magic1" s) signature)
+    (cond (leb 0x80000000 (word "nrtypeinfos" s)) (refused 4)
+    (cond (ltb (length s) (directoryAt s + sizeOf pSeg * 15)) (refused 5) (value (libraryOf s))))
+    (refused 3)))
+
+-- a refusal carries its number and zeros
+abbrev pub noLibrary : TypeLib
+noLibrary = record { segments = replicate 15 (record { offset = 0; length = 0 }); count = 0; table = 0 }
+
+abbrev pub parsed : Answer TypeLib → Parsed
+parsed (value lib) = record { number = 0; lib = lib }
+parsed (refused n) = record { number = n; lib = noLibrary }

@@ -1,0 +1,6 @@
+-- The definitions that the contracts of `typelib` cite, and the laws that callers use of them.
+pub mod Tabulate
+pub mod Header
+pub mod HeaderLaws
+pub mod Tables
+pub mod TableLaws

@@ -1,0 +1,128 @@
+-- Laws of `Tables`, a case each. Assumes nothing.
+use mathlib.Core.Path.{_≡_, refl, sym, _∙_, ap}
+use mathlib.Core.Bool.{Bool, true, false, cond, _&&_}
+use mathlib.Core.List.{List}
+use Prim.Native.Nat.{ℕ, _+_, _≤_, _<_}
+use native.Mathlib.Nat.{zero-add}
+use native.Mathlib.Omega.{arith}
+use lib.Dec.{leb, ltb, eqb}
+use lib.ListN.{length, getD}
+use borrow.Author.Tests.{le-leb, lt-leb, le-ltb, lt-ltb, eq-eqb, ne-eqb, leb-true, leb-false, ltb-true, ltb-false, eqb-true}
+use Rattle.util.specs.Read.{cond-elim}
+use Rattle.records.specs.declared.answer.Place.{Place}
+use Rattle.records.specs.Answer.{Answer, value, refused, bind}
+use Rattle.records.specs.Record.{limit}
+use Rattle.typelib.specs.declared.Segment.{Segment}
+use Rattle.typelib.specs.declared.TypeLib.{TypeLib}
+use Rattle.typelib.specs.Tables.{lent, segmentPlace, segmentOf, inTable, placeIn, tablePlace}
+
+-- ---- over-long bytes
+
+pub lent-long : {A : Type 0} (s : List ℕ) (a : Answer A) → limit < length s → refused 1 ≡ lent s a
+unfolding lent
+lent-long s a h = rw (lt-ltb limit (length s) h)
+
+pub lent-fits : {A : Type 0} (s : List ℕ) (a r : Answer A) → length s ≤ limit → r ≡ a → r ≡ lent s a
+unfolding lent
+lent-fits s a r h e = rw (le-ltb limit (length s) h) e
+
+-- ---- segments
+
+pub segment-none : (lib : TypeLib) (k : ℕ) → 15 ≤ k → refused 9 ≡ segmentOf lib k
+unfolding segmentOf
+segment-none lib k h = rw (le-leb 15 k h)
+
+pub segment-some : (lib : TypeLib) (k : ℕ) (a : Answer Place) → k < 15 → a ≡ segmentPlace (getD (lib .segments) k (record { offset = 0; length = 0 })) → a ≡ segmentOf lib k
+unfolding segmentOf
+segment-some lib k a h e = rw (lt-leb 15 k h) e
+
+module _ (e : Segment) where
+  pub segment-offset : 0x80000000 ≤ e .offset → refused 9 ≡ segmentPlace e
+  unfolding segmentPlace
+  segment-offset h = rw (le-leb 0x80000000 (e .offset) h)
+
+  pub segment-empty : e .offset < 0x80000000 → e .length ≡ 0 → refused 9 ≡ segmentPlace e
+  unfolding segmentPlace
+  segment-empty h z = rw (lt-leb 0x80000000 (e .offset) h, eq-eqb (e .length) 0 z)
+
+  pub segment-length : e .offset < 0x80000000 → (e .length ≡ 0 → ⊥) → 0x80000000 ≤ e .length → refused 9 ≡ segmentPlace e
+  unfolding segmentPlace
+  segment-length h z n = rw (lt-leb 0x80000000 (e .offset) h, ne-eqb (e .length) 0 z, le-leb 0x80000000 (e .length) n)
+
+  pub segment-there : e .offset < 0x80000000 → (e .length ≡ 0 → ⊥) → e .length < 0x80000000 → value (record { at = e .offset; len = e .length }) ≡ segmentPlace e
+  unfolding segmentPlace
+  segment-there h z n = rw (lt-leb 0x80000000 (e .offset) h, ne-eqb (e .length) 0 z, lt-leb 0x80000000 (e .length) n)
+
+-- ---- places in a table
+
+module _ (s : List ℕ) (table : Place) (end : ℕ) where
+  pub table-out : (strict : Bool) → leb (table .at + end) (length s) ≡ false → false ≡ inTable strict s table end
+  table-out strict h = rw h
+
+  pub table-file : (strict : Bool) → leb (table .at + end) (length s) ≡ true → strict ≡ false → true ≡ inTable strict s table end
+  table-file strict h e = rw (h, e)
+
+  pub table-strict : (strict r : Bool) → leb (table .at + end) (length s) ≡ true → strict ≡ true → r ≡ leb (0 + end) (table .len) → r ≡ inTable strict s table end
+  table-strict strict r h e f = rw (h, e) (f ∙ ap (λ (n : ℕ). leb n (table .len)) (zero-add end))
+
+and-true : (a b : Bool) → (a && b) ≡ true → a ≡ true
+and-true true b e = refl
+and-true false b e = e
+
+-- what is inside what bounds the table is inside the file
+pub in-file : (strict : Bool) (s : List ℕ) (table : Place) (end : ℕ) → inTable strict s table end ≡ true → table .at + end ≤ length s
+in-file strict s table end e = leb-true (table .at + end) (length s) (and-true (leb (table .at + end) (length s)) (cond strict (leb end (table .len)) true) e)
+
+module _ (strict : Bool) (s : List ℕ) (table : Place) (offset size : ℕ) where
+  pub place-negative : 0x80000000 ≤ offset → refused 9 ≡ placeIn strict s table offset size
+  unfolding placeIn
+  place-negative h = rw (le-leb 0x80000000 offset h)
+
+  pub place-out : offset < 0x80000000 → inTable strict s table (offset + size) ≡ false → refused 9 ≡ placeIn strict s table offset size
+  unfolding placeIn
+  place-out h e = rw (lt-leb 0x80000000 offset h, e)
+
+  pub place-there : offset < 0x80000000 → inTable strict s table (offset + size) ≡ true → value (record { at = table .at + offset; len = size }) ≡ placeIn strict s table offset size
+  unfolding placeIn
+  place-there h e = rw (lt-leb 0x80000000 offset h, e)
+
+-- ---- what a place that was found tells
+
+pub record Found (s : List ℕ) (size : ℕ) (p : Place) : Type 0 where
+  pub inside : p .at + size ≤ length s
+  pub whole : p .len ≡ size
+
+abbrev Finds : List ℕ → ℕ → Place → Answer Place → Type 0
+Finds s size p a = value p ≡ a → Found s size p
+
+nothing : (s : List ℕ) (size n : ℕ) (p : Place) → Finds s size p (refused n)
+nothing s size n p e = let z : _≡_ {A = ℕ} 0 1 = cc in absurd (omega arith)
+
+pub found-in : (strict : Bool) (s : List ℕ) (table : Place) (offset size : ℕ) (p : Place) → value p ≡ placeIn strict s table offset size → Found s size p
+unfolding placeIn
+found-in strict s table offset size p =
+    cond-elim (Finds s size p) (leb 0x80000000 offset) _ _ (λ _. nothing s size 9 p) (λ _.
+    cond-elim (Finds s size p) (inTable strict s table (offset + size)) _ _ (λ h e.
+    let q : p ≡ record { at = table .at + offset; len = size } = cc in
+    let a : p .at ≡ table .at + offset = ap (λ (x : Place). x .at) q in
+    record { inside = omega (arith, in-file strict s table (offset + size) h); whole = ap (λ (x : Place). x .len) q })
+    (λ _. nothing s size 9 p))
+
+found-bind : (strict : Bool) (s : List ℕ) (a : Answer Place) (offset size : ℕ) (p : Place) → value p ≡ bind a (λ table. placeIn strict s table offset size) → Found s size p
+found-bind strict s (value table) offset size p e = found-in strict s table offset size p e
+found-bind strict s (refused n) offset size p e = nothing s size n p e
+
+pub record Here (s : List ℕ) (size : ℕ) (p : Place) : Type 0 where
+  pub few : length s ≤ limit
+  pub inside : p .at + size ≤ length s
+  pub whole : p .len ≡ size
+
+-- bytes that the door lets through are inside lent bytes that are not over-long
+pub found : (strict : Bool) (s : List ℕ) (lib : TypeLib) (k offset size : ℕ) (p : Place) → value p ≡ tablePlace strict s lib k offset size → Here s size p
+unfolding lent
+found strict s lib k offset size p =
+    cond-elim (λ (a : Answer Place). value p ≡ a → Here s size p) (ltb limit (length s)) _ _
+    (λ _ e. let z : _≡_ {A = ℕ} 0 1 = cc in absurd (omega arith))
+    (λ h e.
+    let f = found-bind strict s (segmentOf lib k) offset size p e in
+    record { few = ltb-false limit (length s) h; inside = f .inside; whole = f .whole })

@@ -1,0 +1,46 @@
+-- The tables of a library, each a segment of the file (Wine's MSFT_SegDir numbers them from 1, the Rust from 0).
+-- Assumes nothing.
+use mathlib.Core.Bool.{Bool, true, cond, _&&_}
+use mathlib.Core.List.{List}
+use Prim.Native.Nat.{ℕ, _+_}
+use lib.Dec.{leb, ltb, eqb}
+use lib.ListN.{length, getD}
+use Rattle.records.specs.declared.answer.Place.{Place}
+use Rattle.records.specs.Answer.{Answer, value, refused, map, bind}
+use Rattle.records.specs.Record.{limit}
+use Rattle.typelib.specs.declared.Segment.{Segment}
+use Rattle.typelib.specs.declared.TypeLib.{TypeLib}
+
+-- bytes above the limit are 1 to every entry
+unfoldable pub lent : {A : Type 0} → List ℕ → Answer A → Answer A
+lent s a = cond (ltb limit (length s)) (refused 1) a
+
+-- a 32-bit pattern that is negative as a signed number
+abbrev pub negative : ℕ → Bool
+negative n = leb 0x80000000 n
+
+-- a segment with a negative offset or a length below 1 is missing
+unfoldable pub segmentPlace : Segment → Answer Place
+segmentPlace e =
+    cond (negative (e .offset)) (refused 9)
+    (cond (eqb (e .length) 0) (refused 9)
+    (cond (negative (e .length)) (refused 9)
+    (value (record { at = e .offset; len = e .length }))))
+
+unfoldable pub segmentOf : TypeLib → ℕ → Answer Place
+segmentOf lib k = cond (leb 15 k) (refused 9) (segmentPlace (getD (lib .segments) k (record { offset = 0; length = 0 })))
+
+-- What bounds a table: the file's end, and in a strict place (an import, the fixed part of an import file) also the
+-- segment's. `end` is counted from the table's start.
+abbrev pub inTable : Bool → List ℕ → Place → ℕ → Bool
+inTable strict s table end = leb (table .at + end) (length s) && cond strict (leb end (table .len)) true
+
+-- where the `size` bytes at `offset`, a 32-bit pattern, of a table lie
+unfoldable pub placeIn : Bool → List ℕ → Place → ℕ → ℕ → Answer Place
+placeIn strict s table offset size =
+    cond (negative offset) (refused 9)
+    (cond (inTable strict s table (offset + size)) (value (record { at = table .at + offset; len = size })) (refused 9))
+
+-- the same of the table in segment k: 9 where it is missing
+abbrev pub tablePlace : Bool → List ℕ → TypeLib → ℕ → ℕ → ℕ → Answer Place
+tablePlace strict s lib k offset size = lent s (bind (segmentOf lib k) (λ table. placeIn strict s table offset size))
