@@ -9,7 +9,7 @@ use lib.ListN.{length, replicate}
 use Rattle.util.specs.Read.{le}
 use Rattle.records.specs.Answer.{Answer, value, refused}
 use Rattle.records.specs.Layout.{Layout, _of_, sizeOf, offsetOf, widthOf}
-use Rattle.records.specs.Record.{limit, flagSet}
+use Rattle.records.specs.Record.{limit, field, flagSet}
 use Rattle.typelib.specs.Tabulate.{tabulate}
 use Rattle.typelib.specs.declared.Segment.{Segment}
 use Rattle.typelib.specs.declared.TypeLib.{TypeLib}
@@ -55,6 +55,10 @@ pSeg = ("offset" of 4) ∷ ("length" of 4) ∷ ("res08" of 4) ∷ ("res0c" of 4)
 -- the four bytes of a header field
 abbrev pub word : String → List ℕ → ℕ
 word name s = le 4 s (offsetOf header name)
+
+-- a reading of the header, the record at the start of the bytes
+abbrev pub headerField : String → List ℕ → Answer ℕ
+headerField name s = field header name s 0 (sizeOf header)
 
 -- the offset table starts behind the header, four bytes later where the flag is set
 abbrev pub tableAt : List ℕ → ℕ

@@ -4,3 +4,8 @@ pub mod Header
 pub mod HeaderLaws
 pub mod Tables
 pub mod TableLaws
+pub mod Names
+pub mod TypeInfos
+pub mod TypeInfoLaws
+pub mod Nine
+pub mod Told

@@ -8,6 +8,10 @@ use native.Mathlib.Omega.{arith}
 use lib.Dec.{leb, ltb, eqb}
 use lib.ListN.{length, getD}
 use borrow.Author.Tests.{le-leb, lt-leb, le-ltb, lt-ltb, eq-eqb, ne-eqb, leb-true, leb-false, ltb-true, ltb-false, eqb-true}
+use lib.IntN.{ℤ}
+use mir.Syntax.{w32}
+use mir.Val.{SFits, toZ, ofZ}
+use mir.ValLaws.{toZ-ofZ}
 use Rattle.util.specs.Read.{cond-elim}
 use Rattle.records.specs.declared.answer.Place.{Place}
 use Rattle.records.specs.Answer.{Answer, value, refused, bind}
@@ -126,3 +130,9 @@ found strict s lib k offset size p =
     (λ h e.
     let f = found-bind strict s (segmentOf lib k) offset size p e in
     record { few = ltb-false limit (length s) h; inside = f .inside; whole = f .whole })
+
+-- ---- signed offsets
+
+-- a signed number and its 32-bit pattern, as a call hands it on
+pub pattern : (z : ℤ) (r : ℕ) → SFits w32 z → r ≡ ofZ w32 (toZ w32 (ofZ w32 z)) → r ≡ ofZ w32 z
+pattern z r f e = e ∙ ap (ofZ w32) (toZ-ofZ w32 z f)

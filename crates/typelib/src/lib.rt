@@ -4,6 +4,11 @@
 // value, beside the lent bytes. Beside other bytes it is read by its own numbers, with the same
 // checks.
 use records::answer::Place;
+
+mod header;
+mod names;
+mod typeinfos;
+
 use records::answer::PlaceAnswer;
 ghost use mathlib.Core.Path.{_≡_};
 ghost use Prim.Native.Nat.{_+_, _≤_};
@@ -29,6 +34,14 @@ pub struct TypeLib {
     pub count: u32,
     pub table: u32,
 }
+
+// The three kinds of number that the source tells apart in its comments: a typeinfo's byte offset in
+// segment 0, its index, and a byte offset in the import segment.
+pub struct TypeInfoOffset(pub i32);
+
+pub struct TypeInfoIndex(pub usize);
+
+pub struct ImportOffset(pub u32);
 
 // Number 0 and the library, or the number of the refusal and zeros. (An enum cannot hold an array.)
 pub struct Parsed {
@@ -172,7 +185,7 @@ impl TypeLib {
 }
 
 // Where the `size` bytes at `offset` of a table lie.
-fn place_in(s: &[u8], table: Place, offset: u32, size: usize, strict: bool) -> PlaceAnswer
+pub fn place_in(s: &[u8], table: Place, offset: u32, size: usize, strict: bool) -> PlaceAnswer
     ensures { λ r. ⌜ toldPlace r ≡ placeIn strict (now (s .entry)) table offset size ⌝ }
 {
     if NEGATIVE <= offset {

@@ -1,0 +1,44 @@
+-- Names, strings and GUIDs, by their offset in a table: a 32-bit pattern. Assumes nothing.
+use mathlib.Core.Bool.{false}
+use mathlib.Core.List.{List, [], _∷_}
+use Prim.Native.Nat.{ℕ, _+_}
+use Rattle.util.specs.Read.{le}
+use Rattle.records.specs.declared.answer.Place.{Place}
+use Rattle.records.specs.Answer.{Answer, map, bind}
+use Rattle.records.specs.Counted.{textOf}
+use Rattle.records.specs.Layout.{Layout, _of_, sizeOf, offsetOf, widthOf, guid}
+use Rattle.typelib.specs.declared.TypeLib.{TypeLib}
+use Rattle.typelib.specs.Tables.{tablePlace}
+
+-- MSFT_NameIntro, before a name; of the third word "only lower 8 bits are valid" as the name's length
+abbrev pub nameIntro : Layout
+nameIntro = ("hreftype" of 4) ∷ ("next_hash" of 4) ∷ ("namelen" of 1) ∷ ("flags" of 1) ∷ ("hashcode" of 2) ∷ []
+
+-- a name of n bytes stands behind its intro
+abbrev pub nameBehind : List ℕ → TypeLib → ℕ → ℕ → Answer Place
+nameBehind s lib offset n =
+    map (λ p. record { at = p .at + sizeOf nameIntro; len = n }) (tablePlace false s lib 7 offset (sizeOf nameIntro + n))
+
+-- the bytes of a name, in segment 7
+abbrev pub nameBytes : List ℕ → TypeLib → ℕ → Answer Place
+nameBytes s lib offset =
+    bind (tablePlace false s lib 7 offset (offsetOf nameIntro "namelen" + 1)) (λ intro.
+    nameBehind s lib offset (le 1 s (intro .at + offsetOf nameIntro "namelen")))
+
+-- the same, where they are text in UTF-8
+abbrev pub nameText : List ℕ → TypeLib → ℕ → Answer Place
+nameText s lib offset = textOf s (nameBytes s lib offset)
+
+-- a string of segment 8: two bytes of length, and the text
+abbrev pub stringBehind : List ℕ → TypeLib → ℕ → ℕ → Answer Place
+stringBehind s lib offset n = map (λ p. record { at = p .at + 2; len = n }) (tablePlace false s lib 8 offset (2 + n))
+
+abbrev pub stringBytes : List ℕ → TypeLib → ℕ → Answer Place
+stringBytes s lib offset = bind (tablePlace false s lib 8 offset 2) (λ p. stringBehind s lib offset (le 2 s (p .at)))
+
+abbrev pub stringText : List ℕ → TypeLib → ℕ → Answer Place
+stringText s lib offset = textOf s (stringBytes s lib offset)
+
+-- a GUID of segment 5, at any offset
+abbrev pub guidPlace : List ℕ → TypeLib → ℕ → Answer Place
+guidPlace s lib offset = tablePlace false s lib 5 offset (sizeOf guid)
