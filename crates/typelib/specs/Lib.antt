@@ -8,4 +8,7 @@ pub mod Names
 pub mod TypeInfos
 pub mod TypeInfoLaws
 pub mod Nine
+pub mod Descriptors
+pub mod References
+pub mod ReferenceLaws
 pub mod Told

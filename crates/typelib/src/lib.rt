@@ -5,9 +5,11 @@
 // checks.
 use records::answer::Place;
 
+pub mod descriptors;
 mod header;
 mod names;
-mod typeinfos;
+pub mod references;
+pub mod typeinfos;
 
 use records::answer::PlaceAnswer;
 ghost use mathlib.Core.Path.{_≡_};

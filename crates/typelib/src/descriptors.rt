@@ -1,0 +1,77 @@
+// Type descriptors and array descriptors, by their offset in a table.
+use crate::TypeLib;
+use records::answer::PlaceAnswer;
+use records::arraydesc::ArrayDesc;
+ghost use mathlib.Core.Path.{_≡_};
+ghost use mir.Syntax.{w32};
+ghost use mir.Val.{ofZ};
+ghost use Rattle.typelib.specs.Descriptors.{typeDescAt, arrayDescAt};
+ghost use Rattle.typelib.specs.Told.{toldPair, toldArrayDesc};
+
+const TYPE_TABLE: usize = 9;
+
+const ARRAY_TABLE: usize = 10;
+
+// The two words of a type descriptor, each the 32-bit pattern of a signed number.
+pub struct WordPair {
+    pub first: u32,
+    pub second: u32,
+}
+
+pub enum PairAnswer {
+    Value(WordPair),
+    Refused(u8),
+}
+
+pub enum ArrayDescAnswer {
+    Value(ArrayDesc),
+    Refused(u8),
+}
+
+impl TypeLib {
+    // The type descriptor at an offset: its code, and what the code asks for.
+    pub fn type_desc(self, s: &[u8], offset: i32) -> PairAnswer
+        ensures { λ r. ⌜ toldPair r ≡ typeDescAt (now (s .entry)) self (ofZ w32 offset) ⌝ }
+    {
+        self.type_desc_at(s, util::unsigned32(offset))
+    }
+
+    pub fn type_desc_at(self, s: &[u8], offset: u32) -> PairAnswer
+        ensures { λ r. ⌜ toldPair r ≡ typeDescAt (now (s .entry)) self offset ⌝ }
+    {
+        match self.table_place(s, TYPE_TABLE, offset, 8, false) {
+            PlaceAnswer::Value(place) => {
+                let at = place.at;
+                let first = util::u32_or_zero(s, at);
+                let second = util::u32_or_zero(s, at + 4);
+                PairAnswer::Value(WordPair { first, second })
+            }
+            PlaceAnswer::Refused(n) => PairAnswer::Refused(n),
+        }
+    }
+
+    // The array descriptor at an offset, with its bounds.
+    pub fn array_desc(self, s: &[u8], offset: i32) -> ArrayDescAnswer
+        ensures { λ r. ⌜ toldArrayDesc r ≡ arrayDescAt (now (s .entry)) self (ofZ w32 offset) ⌝ }
+    {
+        self.array_desc_at(s, util::unsigned32(offset))
+    }
+
+    pub fn array_desc_at(self, s: &[u8], offset: u32) -> ArrayDescAnswer
+        ensures { λ r. ⌜ toldArrayDesc r ≡ arrayDescAt (now (s .entry)) self offset ⌝ }
+    {
+        match self.table_place(s, ARRAY_TABLE, offset, 8, false) {
+            PlaceAnswer::Value(head) => {
+                let dimensions = util::u16_or_zero(s, head.at + 4) as usize;
+                match self.table_place(s, ARRAY_TABLE, offset, 8 + 8 * dimensions, false) {
+                    PlaceAnswer::Value(place) => ArrayDescAnswer::Value(ArrayDesc {
+                        at: place.at,
+                        len: place.len,
+                    }),
+                    PlaceAnswer::Refused(n) => ArrayDescAnswer::Refused(n),
+                }
+            }
+            PlaceAnswer::Refused(n) => ArrayDescAnswer::Refused(n),
+        }
+    }
+}

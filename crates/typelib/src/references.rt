@@ -1,0 +1,151 @@
+// Import files, and what an hreftype refers to.
+use crate::ImportOffset;
+use crate::TypeInfoIndex;
+use crate::TypeLib;
+use records::answer::PlaceAnswer;
+use records::impfile::ImpFile;
+use records::impinfo::ImpInfo;
+ghost use mathlib.Core.Path.{_≡_};
+ghost use mir.Syntax.{w32};
+ghost use mir.Val.{ofZ};
+ghost use Rattle.typelib.specs.References.{impFileAt, internalIndex, hrefIndex, importAt, resolvedAt, cleared, hrefResolved};
+ghost use Rattle.typelib.specs.Told.{toldImpFile, toldIndex, toldResolved};
+
+const LIMIT: usize = 16_777_216;
+
+const NEGATIVE: u32 = 0x8000_0000;
+
+const IMPORT_TABLE: usize = 1;
+
+const IMPORT_FILES: usize = 2;
+
+pub enum ImpFileAnswer {
+    Value(ImpFile),
+    Refused(u8),
+}
+
+pub enum IndexAnswer {
+    Value(TypeInfoIndex),
+    Refused(u8),
+}
+
+// A typeinfo of this library; or an import record, and the import file that it names.
+pub enum ResolvedHreftype {
+    Internal(TypeInfoIndex),
+    External(ImpInfo, ImpFileAnswer),
+}
+
+pub enum ResolvedAnswer {
+    Value(ResolvedHreftype),
+    Refused(u8),
+}
+
+impl TypeLib {
+    pub const DISPATCH_HREF_OFFSET: u32 = 0x0100_0000;
+
+    // The import file at an offset of its table.
+    pub fn imp_file(self, s: &[u8], offset: i32) -> ImpFileAnswer
+        ensures { λ r. ⌜ toldImpFile r ≡ impFileAt (now (s .entry)) self (ofZ w32 offset) ⌝ }
+    {
+        self.imp_file_at(s, util::unsigned32(offset))
+    }
+
+    pub fn imp_file_at(self, s: &[u8], offset: u32) -> ImpFileAnswer
+        ensures { λ r. ⌜ toldImpFile r ≡ impFileAt (now (s .entry)) self offset ⌝ }
+    {
+        match self.table_place(s, IMPORT_FILES, offset, 14, true) {
+            PlaceAnswer::Value(head) => {
+                let name = (util::u16_or_zero(s, head.at + 12) / 4) as usize;
+                match self.table_place(s, IMPORT_FILES, offset, (name + 14 + 3) / 4 * 4, false) {
+                    PlaceAnswer::Value(place) => ImpFileAnswer::Value(ImpFile {
+                        at: place.at,
+                        len: place.len,
+                    }),
+                    PlaceAnswer::Refused(n) => ImpFileAnswer::Refused(n),
+                }
+            }
+            PlaceAnswer::Refused(n) => ImpFileAnswer::Refused(n),
+        }
+    }
+
+    // The index of the typeinfo that an internal hreftype refers to.
+    pub fn resolve_hreftype(self, hreftype: i32) -> IndexAnswer
+        ensures { λ r. ⌜ toldIndex r ≡ hrefIndex self (ofZ w32 hreftype) ⌝ }
+    {
+        let href = util::unsigned32(hreftype);
+        if NEGATIVE <= href {
+            return IndexAnswer::Refused(9);
+        }
+        if util::bits(href, 0, 2) == 0 {
+            return self.internal_index(href);
+        }
+        IndexAnswer::Refused(9)
+    }
+
+    // A typeinfo's byte offset is its index times the size of a typeinfo.
+    fn internal_index(self, offset: u32) -> IndexAnswer
+        ensures { λ r. ⌜ toldIndex r ≡ internalIndex self offset ⌝ }
+    {
+        let index = offset / 100;
+        if index < self.count {
+            return IndexAnswer::Value(TypeInfoIndex(index as usize));
+        }
+        IndexAnswer::Refused(9)
+    }
+
+    // What an hreftype refers to, in this library or another.
+    pub fn resolve_hreftype_full(self, s: &[u8], hreftype: i32) -> ResolvedAnswer
+        ensures { λ r. ⌜ toldResolved r ≡ hrefResolved (now (s .entry)) self (ofZ w32 hreftype) ⌝ }
+    {
+        let href = util::unsigned32(hreftype);
+        if LIMIT < s.len() {
+            return ResolvedAnswer::Refused(1);
+        }
+        if NEGATIVE <= href {
+            return ResolvedAnswer::Refused(9);
+        }
+        self.resolve_at(s, without_dispatch(href))
+    }
+
+    fn resolve_at(self, s: &[u8], href: u32) -> ResolvedAnswer
+        ensures { λ r. ⌜ toldResolved r ≡ resolvedAt (now (s .entry)) self href ⌝ }
+    {
+        let low = util::bits(href, 0, 2);
+        if low == 0 {
+            return match self.internal_index(href) {
+                IndexAnswer::Value(index) => ResolvedAnswer::Value(ResolvedHreftype::Internal(
+                    index,
+                )),
+                IndexAnswer::Refused(n) => ResolvedAnswer::Refused(n),
+            };
+        }
+        self.import_at(s, ImportOffset(href - low))
+    }
+
+    fn import_at(self, s: &[u8], offset: ImportOffset) -> ResolvedAnswer
+        ensures { λ r. ⌜ toldResolved r ≡ importAt (now (s .entry)) self (offset .0) ⌝ }
+    {
+        match self.table_place(s, IMPORT_TABLE, offset.0, 12, true) {
+            PlaceAnswer::Value(place) => {
+                let info = ImpInfo {
+                    at: place.at,
+                    len: place.len,
+                };
+                let file = self.imp_file_at(s, util::u32_or_zero(s, place.at + 4));
+                ResolvedAnswer::Value(ResolvedHreftype::External(info, file))
+            }
+            PlaceAnswer::Refused(n) => ResolvedAnswer::Refused(n),
+        }
+    }
+}
+
+// The reference with the bit of a dispatch interface cleared.
+fn without_dispatch(href: u32) -> u32
+    ensures { λ r. ⌜ r ≡ cleared href ⌝ }
+{
+    if util::bits(href, 24, 1) == 1 {
+        href - TypeLib::DISPATCH_HREF_OFFSET
+    } else {
+        href
+    }
+}
