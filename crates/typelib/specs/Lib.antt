@@ -11,4 +11,6 @@ pub mod Nine
 pub mod Descriptors
 pub mod References
 pub mod ReferenceLaws
+pub mod Cursors
+pub mod CursorLaws
 pub mod Told

@@ -1,0 +1,215 @@
+-- Laws of `Cursors`, a case each. Assumes nothing.
+use mathlib.Core.Path.{_≡_, refl, sym, _∙_, ap}
+use mathlib.Core.Bool.{Bool, true, false, cond}
+use mathlib.Core.List.{List}
+use mathlib.Core.Option.{Option, some, none}
+use Prim.Native.Nat.{ℕ, _+_, _-_, _*_, _/_, _%_, _^_, _≤_, _<_}
+use native.Mathlib.Omega.{arith}
+use lib.Dec.{leb, ltb, eqb}
+use lib.ListN.{length}
+use borrow.Author.Tests.{le-leb, lt-leb, le-ltb, lt-ltb, eq-eqb, ne-eqb, ltb-false, ltb-true, eqb-false, leb-false}
+use Rattle.util.specs.Read.{le, read, cond-elim}
+use Rattle.records.specs.declared.answer.Place.{Place}
+use Rattle.records.specs.Answer.{Answer, value, refused, bind}
+use Rattle.records.specs.Counted.{impFileSize}
+use Rattle.records.specs.Record.{limit}
+use Rattle.typelib.specs.declared.TypeLib.{TypeLib}
+use Rattle.typelib.specs.declared.iterators.ParamCursor.{ParamCursor}
+use Rattle.typelib.specs.declared.iterators.TypeInfoCursor.{TypeInfoCursor}
+use Rattle.typelib.specs.TableLaws.{lent-fits}
+use Rattle.typelib.specs.Tables.{lent}
+use Rattle.typelib.specs.TypeInfos.{typeinfoOf}
+use Rattle.typelib.specs.Cursors.{Step, yielded, ended, sizeAt, recordAt, fixedAt, paramAt, impFileEntry, typeinfoStepFrom, typeinfoStep}
+
+-- ---- records that carry their length
+
+module _ (s : List ℕ) (pos end remaining least : ℕ) where
+  pub record-none : remaining ≡ 0 → refused 9 ≡ recordAt s pos end remaining least
+  unfolding recordAt
+  record-none h = rw (eq-eqb remaining 0 h)
+
+  pub record-past : (remaining ≡ 0 → ⊥) → end ≤ pos → refused 9 ≡ recordAt s pos end remaining least
+  unfolding recordAt
+  record-past h k = rw (ne-eqb remaining 0 h, le-leb end pos k)
+
+  pub record-cut : (remaining ≡ 0 → ⊥) → pos < end → length s < pos + 4 → refused 9 ≡ recordAt s pos end remaining least
+  unfolding recordAt
+  record-cut h k l = rw (ne-eqb remaining 0 h, lt-leb end pos k, lt-ltb (length s) (pos + 4) l)
+
+  pub record-small : (remaining ≡ 0 → ⊥) → pos < end → pos + 4 ≤ length s → sizeAt s pos < least → refused 9 ≡ recordAt s pos end remaining least
+  unfolding recordAt
+  record-small h k l m = rw (ne-eqb remaining 0 h, lt-leb end pos k, le-ltb (length s) (pos + 4) l, lt-ltb (sizeAt s pos) least m)
+
+  pub record-long : (remaining ≡ 0 → ⊥) → pos < end → pos + 4 ≤ length s → least ≤ sizeAt s pos → length s < pos + sizeAt s pos → refused 9 ≡ recordAt s pos end remaining least
+  unfolding recordAt
+  record-long h k l m n =
+      rw (
+        ne-eqb remaining 0 h,
+        lt-leb end pos k,
+        le-ltb (length s) (pos + 4) l,
+        le-ltb (sizeAt s pos) least m,
+        lt-ltb (length s) (pos + sizeAt s pos) n,
+      )
+
+  pub record-there : (remaining ≡ 0 → ⊥) → pos < end → pos + 4 ≤ length s → least ≤ sizeAt s pos → pos + sizeAt s pos ≤ length s → value (sizeAt s pos) ≡ recordAt s pos end remaining least
+  unfolding recordAt
+  record-there h k l m n =
+      rw (
+        ne-eqb remaining 0 h,
+        lt-leb end pos k,
+        le-ltb (length s) (pos + 4) l,
+        le-ltb (sizeAt s pos) least m,
+        le-ltb (length s) (pos + sizeAt s pos) n,
+      )
+
+-- what a record that was found tells
+pub record Recorded (s : List ℕ) (pos end remaining least n : ℕ) : Type 0 where
+  pub some : 0 < remaining
+  pub whole : least ≤ n
+  pub within : pos + n ≤ length s
+
+abbrev Records : List ℕ → ℕ → ℕ → ℕ → ℕ → ℕ → Answer ℕ → Type 0
+Records s pos end remaining least n a = value n ≡ a → Recorded s pos end remaining least n
+
+no-record : (s : List ℕ) (pos end remaining least n m : ℕ) → Records s pos end remaining least n (refused m)
+no-record s pos end remaining least n m e = let z : _≡_ {A = ℕ} 0 1 = cc in absurd (omega arith)
+
+pub recorded : (s : List ℕ) (pos end remaining least n : ℕ) → value n ≡ lent s (recordAt s pos end remaining least) → Recorded s pos end remaining least n
+unfolding recordAt lent
+recorded s pos end remaining least n =
+    let P : Answer ℕ → Type 0 = Records s pos end remaining least n in
+    let no : (m : ℕ) → P (refused m) = no-record s pos end remaining least n in
+    cond-elim P (ltb limit (length s)) _ _ (λ _. no 1) (λ _.
+    cond-elim P (eqb remaining 0) _ _ (λ _. no 9) (λ h1.
+    cond-elim P (leb end pos) _ _ (λ _. no 9) (λ h2.
+    cond-elim P (ltb (length s) (pos + 4)) _ _ (λ _. no 9) (λ h3.
+    cond-elim P (ltb (sizeAt s pos) least) _ _ (λ _. no 9) (λ h4.
+    cond-elim P (ltb (length s) (pos + sizeAt s pos)) _ _ (λ _. no 9) (λ h5 e.
+    let q : n ≡ sizeAt s pos = cc in
+    record {
+      some = omega (arith, eqb-false remaining 0 h1);
+      whole = omega (arith, ltb-false (sizeAt s pos) least h4);
+      within = omega (arith, ltb-false (length s) (pos + sizeAt s pos) h5);
+    }))))))
+
+-- ---- records of one size
+
+module _ (s : List ℕ) (pos end size : ℕ) where
+  pub fixed-past : end < pos + size → refused 9 ≡ fixedAt s pos end size
+  unfolding fixedAt
+  fixed-past h = rw (lt-ltb end (pos + size) h)
+
+  pub fixed-cut : pos + size ≤ end → length s < pos + size → refused 9 ≡ fixedAt s pos end size
+  unfolding fixedAt
+  fixed-cut h k = rw (le-ltb end (pos + size) h, lt-ltb (length s) (pos + size) k)
+
+  pub fixed-there : pos + size ≤ end → pos + size ≤ length s → value (record { at = pos; len = size }) ≡ fixedAt s pos end size
+  unfolding fixedAt
+  fixed-there h k = rw (le-ltb end (pos + size) h, le-ltb (length s) (pos + size) k)
+
+pub record Fixed (s : List ℕ) (pos end size : ℕ) (p : Place) : Type 0 where
+  pub inside : pos + size ≤ length s
+  pub within : pos + size ≤ end
+  pub whole : p .len ≡ size
+
+pub fixed : (s : List ℕ) (pos end size : ℕ) (p : Place) → value p ≡ lent s (fixedAt s pos end size) → Fixed s pos end size p
+unfolding fixedAt lent
+fixed s pos end size p =
+    let P : Answer Place → Type 0 = λ a. value p ≡ a → Fixed s pos end size p in
+    let no : (m : ℕ) → P (refused m) = λ m e. let z : _≡_ {A = ℕ} 0 1 = cc in absurd (omega arith) in
+    cond-elim P (ltb limit (length s)) _ _ (λ _. no 1) (λ _.
+    cond-elim P (ltb end (pos + size)) _ _ (λ _. no 9) (λ h1.
+    cond-elim P (ltb (length s) (pos + size)) _ _ (λ _. no 9) (λ h2 e.
+    let q : p ≡ record { at = pos; len = size } = cc in
+    record {
+      inside = ltb-false (length s) (pos + size) h2;
+      within = ltb-false end (pos + size) h1;
+      whole = ap (λ (x : Place). x .len) q;
+    })))
+
+pub param-none : (s : List ℕ) (c : ParamCursor) → c .remaining ≡ 0 → refused 9 ≡ paramAt s c
+unfolding paramAt
+param-none s c h = rw (eq-eqb (c .remaining) 0 h)
+
+pub param-some : (s : List ℕ) (c : ParamCursor) → (c .remaining ≡ 0 → ⊥) → lent s (fixedAt s (c .pos) (c .end) 12) ≡ lent s (paramAt s c)
+unfolding paramAt
+param-some s c h = rw (ne-eqb (c .remaining) 0 h)
+
+-- ---- typeinfos
+
+module _ (s : List ℕ) (lib : TypeLib) (c : TypeInfoCursor) where
+  pub typeinfos-long : limit < length s → ended 1 c ≡ typeinfoStep s lib c
+  unfolding typeinfoStep
+  typeinfos-long h = rw (lt-ltb limit (length s) h)
+
+  pub typeinfos-end : length s ≤ limit → lib .count ≤ c .index → ended 9 c ≡ typeinfoStep s lib c
+  unfolding typeinfoStep
+  typeinfos-end h k = rw (le-ltb limit (length s) h, le-leb (lib .count) (c .index) k)
+
+  pub typeinfos-next : (a : Answer Place) → length s ≤ limit → c .index < lib .count → a ≡ typeinfoOf s lib (c .index) → typeinfoStepFrom c a ≡ typeinfoStep s lib c
+  unfolding typeinfoStep
+  typeinfos-next a h k e = rw (le-ltb limit (length s) h, lt-leb (lib .count) (c .index) k) (ap (typeinfoStepFrom c) e)
+
+-- the length of a record, as the code takes it
+pub size-is : (s : List ℕ) (pos info r : ℕ) → info ≡ le 4 s pos → r ≡ info / 2 ^ 0 % 2 ^ 16 → r ≡ sizeAt s pos
+size-is s pos info r e h = h ∙ ap (λ (n : ℕ). n / 2 ^ 0 % 2 ^ 16) e
+
+-- ---- values and refusals behind the test for over-long bytes
+
+pub record Lent {A : Type 0} (s : List ℕ) (x : A) (a : Answer A) : Type 0 where
+  pub few : length s ≤ limit
+  pub is : value x ≡ a
+
+pub lent-value : {A : Type 0} (s : List ℕ) (x : A) (a : Answer A) → value x ≡ lent s a → Lent s x a
+unfolding lent
+lent-value {A} s x a =
+    cond-elim (λ (r : Answer A). value x ≡ r → Lent s x a) (ltb limit (length s)) (refused 1) a
+    (λ _ e. let z : _≡_ {A = ℕ} 0 1 = cc in absurd (omega arith))
+    (λ h e. record { few = ltb-false limit (length s) h; is = e })
+
+pub lent-bind : {A B : Type 0} (s : List ℕ) (a : Answer A) (f : A → Answer B) (n : ℕ) → refused n ≡ lent s a → refused n ≡ lent s (bind a f)
+unfolding lent
+lent-bind {A} {B} s a f n = go (ltb limit (length s))
+  where
+    go : (b : Bool) → refused n ≡ cond b (refused 1) a → refused n ≡ cond b (refused 1) (bind a f)
+    go true e = let q : n ≡ 1 = cc in ap refused q
+    go false e = ap (λ (x : Answer A). bind x f) e
+
+-- ---- parameters
+
+pub record Param (s : List ℕ) (c : ParamCursor) (p : Place) : Type 0 where
+  pub some : 0 < c .remaining
+  pub inside : c .pos + 12 ≤ length s
+
+pub param : (s : List ℕ) (c : ParamCursor) (p : Place) → value p ≡ lent s (paramAt s c) → Param s c p
+unfolding paramAt
+param s c p e =
+    let v = lent-value s p (paramAt s c) e in
+    cond-elim (λ (r : Answer Place). value p ≡ r → Param s c p) (eqb (c .remaining) 0) (refused 9) (fixedAt s (c .pos) (c .end) 12)
+    (λ _ f. let z : _≡_ {A = ℕ} 0 1 = cc in absurd (omega arith))
+    (λ h f.
+    let x = fixed s (c .pos) (c .end) 12 p (lent-fits s (fixedAt s (c .pos) (c .end) 12) (value p) (v .few) f) in
+    record { some = omega (arith, eqb-false (c .remaining) 0 h); inside = x .inside })
+    (v .is)
+
+-- ---- import files
+
+pub entry-more : (s : List ℕ) (pos end : ℕ) (p : Place) → value p ≡ lent s (fixedAt s pos end 14) → lent s (fixedAt s pos end (impFileSize (le 2 s (pos + 12)))) ≡ lent s (impFileEntry s pos end)
+unfolding impFileEntry
+entry-more s pos end p e = rw (← lent-value s p (fixedAt s pos end 14) e .is)
+
+pub entry-none : (s : List ℕ) (pos end n : ℕ) → refused n ≡ lent s (fixedAt s pos end 14) → refused n ≡ lent s (impFileEntry s pos end)
+unfolding impFileEntry
+entry-none s pos end n e = lent-bind s (fixedAt s pos end 14) (λ _. fixedAt s pos end (impFileSize (le 2 s (pos + 12)))) n e
+
+bind-inside : (s : List ℕ) (pos end size : ℕ) (a p : Place) (first : Answer Place) → length s ≤ limit → value p ≡ bind first (λ _. fixedAt s pos end size) → pos + p .len ≤ length s
+bind-inside s pos end size a p (value x) h e =
+    let f = fixed s pos end size p (lent-fits s (fixedAt s pos end size) (value p) h e) in
+    omega arith
+bind-inside s pos end size a p (refused n) h e = let z : _≡_ {A = ℕ} 0 1 = cc in absurd (omega arith)
+
+pub entry-inside : (s : List ℕ) (pos end : ℕ) (p : Place) → value p ≡ lent s (impFileEntry s pos end) → pos + p .len ≤ length s
+unfolding impFileEntry
+entry-inside s pos end p e =
+    let v = lent-value s p (impFileEntry s pos end) e in
+    bind-inside s pos end (impFileSize (le 2 s (pos + 12))) p p (fixedAt s pos end 14) (v .few) (v .is)
