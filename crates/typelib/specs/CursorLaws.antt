@@ -3,10 +3,10 @@ use mathlib.Core.Path.{_≡_, refl, sym, _∙_, ap}
 use mathlib.Core.Bool.{Bool, true, false, cond}
 use mathlib.Core.List.{List}
 use mathlib.Core.Option.{Option, some, none}
-use Prim.Native.Nat.{ℕ, _+_, _-_, _*_, _/_, _%_, _^_, _≤_, _<_}
+use Prim.Native.Nat.{ℕ, suc, _+_, _-_, _*_, _/_, _%_, _^_, _≤_, _<_}
 use native.Mathlib.Omega.{arith}
 use lib.Dec.{leb, ltb, eqb}
-use lib.ListN.{length}
+use lib.ListN.{length, getD}
 use borrow.Author.Tests.{le-leb, lt-leb, le-ltb, lt-ltb, eq-eqb, ne-eqb, ltb-false, ltb-true, eqb-false, leb-false}
 use Rattle.util.specs.Read.{le, read, cond-elim}
 use Rattle.records.specs.declared.answer.Place.{Place}
@@ -17,9 +17,9 @@ use Rattle.typelib.specs.declared.TypeLib.{TypeLib}
 use Rattle.typelib.specs.declared.iterators.ParamCursor.{ParamCursor}
 use Rattle.typelib.specs.declared.iterators.TypeInfoCursor.{TypeInfoCursor}
 use Rattle.typelib.specs.TableLaws.{lent-fits}
-use Rattle.typelib.specs.Tables.{lent}
+use Rattle.typelib.specs.Tables.{lent, segmentPlace, segmentOf}
 use Rattle.typelib.specs.TypeInfos.{typeinfoOf}
-use Rattle.typelib.specs.Cursors.{Step, yielded, ended, sizeAt, recordAt, fixedAt, paramAt, impFileEntry, typeinfoStepFrom, typeinfoStep}
+use Rattle.typelib.specs.Cursors.{Step, yielded, ended, sizeAt, recordAt, blockFrom, blockWith, skip, fixedAt, paramAt, impFileEntry, typeinfoStepFrom, typeinfoStep}
 
 -- ---- records that carry their length
 
@@ -213,3 +213,68 @@ unfolding impFileEntry
 entry-inside s pos end p e =
     let v = lent-value s p (impFileEntry s pos end) e in
     bind-inside s pos end (impFileSize (le 2 s (pos + 12))) p p (fixedAt s pos end 14) (v .few) (v .is)
+
+-- ---- blocks
+
+module _ (s : List ℕ) (memoffset count : ℕ) where
+  pub block-negative : 0x80000000 ≤ memoffset → none ≡ blockWith s memoffset count
+  unfolding blockWith
+  block-negative h = rw (le-leb 0x80000000 memoffset h)
+
+  pub block-empty : memoffset < 0x80000000 → count ≡ 0 → none ≡ blockWith s memoffset count
+  unfolding blockWith
+  block-empty h z = rw (lt-leb 0x80000000 memoffset h, eq-eqb count 0 z)
+
+  pub block-there : (o : Option ℕ) → memoffset < 0x80000000 → (count ≡ 0 → ⊥) → o ≡ read 4 s memoffset → blockFrom memoffset o ≡ blockWith s memoffset count
+  unfolding blockWith
+  block-there o h z e = rw (lt-leb 0x80000000 memoffset h, ne-eqb count 0 z) (ap (blockFrom memoffset) e)
+
+-- a turn of the skip
+pub skip-cut : (n : ℕ) (s : List ℕ) (pos : ℕ) → 0 < n → length s < pos + 4 → none ≡ skip n s pos
+unfolding skip
+skip-cut n s pos h k =
+    let e : suc (n - 1) ≡ n = omega arith in
+    let f : none ≡ skip (suc (n - 1)) s pos = rw (lt-ltb (length s) (pos + 4) k) in
+    f ∙ ap (λ (m : ℕ). skip m s pos) e
+
+pub skip-zero : (n : ℕ) (s : List ℕ) (pos : ℕ) → 0 < n → pos + 4 ≤ length s → sizeAt s pos ≡ 0 → some pos ≡ skip n s pos
+unfolding skip
+skip-zero n s pos h k z =
+    let e : suc (n - 1) ≡ n = omega arith in
+    let f : some pos ≡ skip (suc (n - 1)) s pos = rw (le-ltb (length s) (pos + 4) k, eq-eqb (sizeAt s pos) 0 z) in
+    f ∙ ap (λ (m : ℕ). skip m s pos) e
+
+pub skip-on : (n : ℕ) (s : List ℕ) (pos : ℕ) → 0 < n → pos + 4 ≤ length s → (sizeAt s pos ≡ 0 → ⊥) → skip (n - 1) s (pos + sizeAt s pos) ≡ skip n s pos
+unfolding skip
+skip-on n s pos h k z =
+    let e : suc (n - 1) ≡ n = omega arith in
+    let f : skip (n - 1) s (pos + sizeAt s pos) ≡ skip (suc (n - 1)) s pos = rw (le-ltb (length s) (pos + 4) k, ne-eqb (sizeAt s pos) 0 z) in
+    f ∙ ap (λ (m : ℕ). skip m s pos) e
+
+pub skip-done : (s : List ℕ) (pos : ℕ) → some pos ≡ skip 0 s pos
+unfolding skip
+skip-done s pos = refl
+
+-- ---- a segment's place is small
+
+pub record Small (p : Place) : Type 0 where
+  pub start : p .at < 2 ^ 31
+  pub size : p .len < 2 ^ 31
+
+pub small : (lib : TypeLib) (k : ℕ) (p : Place) → value p ≡ segmentOf lib k → Small p
+unfolding segmentOf segmentPlace
+small lib k p =
+    let P : Answer Place → Type 0 = λ a. value p ≡ a → Small p in
+    let no : P (refused 9) = λ e. let z : _≡_ {A = ℕ} 0 1 = cc in absurd (omega arith) in
+    let e = getD (lib .segments) k (record { offset = 0; length = 0 }) in
+    cond-elim P (leb 15 k) _ _ (λ _. no) (λ _.
+    cond-elim P (leb 0x80000000 (e .offset)) _ _ (λ _. no) (λ h1.
+    cond-elim P (eqb (e .length) 0) _ _ (λ _. no) (λ _.
+    cond-elim P (leb 0x80000000 (e .length)) _ _ (λ _. no) (λ h2 f.
+    let q : p ≡ record { at = e .offset; len = e .length } = cc in
+    let a : p .at ≡ e .offset = ap (λ (x : Place). x .at) q in
+    let b : p .len ≡ e .length = ap (λ (x : Place). x .len) q in
+    record {
+      start = omega (arith, leb-false 0x80000000 (e .offset) h1);
+      size = omega (arith, leb-false 0x80000000 (e .length) h2);
+    }))))

@@ -23,7 +23,7 @@ use Rattle.typelib.specs.declared.iterators.ImportCursor.{ImportCursor}
 use Rattle.typelib.specs.declared.iterators.ImpFileCursor.{ImpFileCursor}
 use Rattle.typelib.specs.declared.iterators.TypeInfoCursor.{TypeInfoCursor}
 use Rattle.typelib.specs.declared.typeinfos.Counts.{Counts}
-use Rattle.typelib.specs.Tables.{lent, negative}
+use Rattle.typelib.specs.Tables.{lent, negative, segmentOf}
 use Rattle.typelib.specs.TypeInfos.{ofTypeInfo, countsOf, typeinfoOf}
 
 -- a record and the next cursor; or a refusal and a cursor, which is the same one at the end
@@ -166,6 +166,15 @@ impFileStep s c = impFileStepFrom c (lent s (impFileEntry s (c .pos) (c .end)))
 abbrev pub tableOf : Answer Place → Place
 tableOf (value p) = p
 tableOf (refused n) = record { at = 0; len = 0 }
+
+abbrev pub guidsOf : TypeLib → GuidCursor
+guidsOf lib = record { pos = tableOf (segmentOf lib 5) .at; end = tableOf (segmentOf lib 5) .at + tableOf (segmentOf lib 5) .len }
+
+abbrev pub importsOf : TypeLib → ImportCursor
+importsOf lib = record { pos = tableOf (segmentOf lib 1) .at; end = tableOf (segmentOf lib 1) .at + tableOf (segmentOf lib 1) .len }
+
+abbrev pub impFilesOf : TypeLib → ImpFileCursor
+impFilesOf lib = record { pos = tableOf (segmentOf lib 2) .at; end = tableOf (segmentOf lib 2) .at + tableOf (segmentOf lib 2) .len }
 
 -- ---- typeinfos
 

@@ -1,6 +1,6 @@
 -- What each answer tells: its value, or the number of the refusal (document 01). A record that was answered is its place.
 use mathlib.Core.Option.{Option, some, none}
-use Prim.Native.Nat.{ℕ}
+use Prim.Native.Nat.{ℕ, _+_}
 use lib.IntN.{ℤ}
 use Rattle.records.specs.declared.answer.Place.{Place}
 use Rattle.records.specs.Answer.{Answer, value, refused}
@@ -139,5 +139,5 @@ toldSkip (skipped.At p) = some p
 toldSkip skipped.Nothing = none
 
 abbrev pub toldBlock : Block → Option Place
-toldBlock (block.Some p) = some p
+toldBlock (block.Some at size) = some (record { at = at + 4; len = size })
 toldBlock block.Nothing = none

@@ -6,6 +6,7 @@
 use crate::TypeInfoIndex;
 use crate::TypeLib;
 use crate::typeinfos;
+use crate::typeinfos::Counts;
 use crate::typeinfos::CountsAnswer;
 use crate::typeinfos::TypeInfoAnswer;
 use records::answer::Place;
@@ -22,9 +23,9 @@ use records::param::ParameterInfo;
 use records::typeinfo::TypeInfoEntry;
 use records::var::VarRecord;
 ghost use mathlib.Core.Path.{_≡_};
-ghost use Prim.Native.Nat.{_+_, _-_};
+ghost use Prim.Native.Nat.{_+_, _-_, _^_, _<_};
 ghost use Rattle.records.specs.Told.{toldPlace, toldUsize};
-ghost use Rattle.typelib.specs.Cursors.{recordAt, funcStep, varStep, blockWith, funcsOf, skip, varsOf, fixedAt, guidStep, importStep, paramCursor, paramsOf, paramAt, paramStep, impFileEntry, impFileStep, tableOf, typeinfoStep};
+ghost use Rattle.typelib.specs.Cursors.{recordAt, funcStep, varStep, blockWith, funcCursor, funcsOf, skip, varsFrom, varCursor, varsOf, fixedAt, guidStep, importStep, paramCursor, paramsOf, paramAt, paramStep, impFileEntry, impFileStep, tableOf, guidsOf, importsOf, impFilesOf, typeinfoStep};
 ghost use Rattle.typelib.specs.Tables.{lent, segmentOf};
 ghost use Rattle.typelib.specs.Told.{toldFuncs, toldFuncStep, toldVars, toldVarStep, toldParams, toldParamStep, toldGuidStep, toldImportStep, toldImpFileStep, toldTypeInfoStep, toldBlock, toldSkip};
 
@@ -125,9 +126,88 @@ pub enum Skipped {
     Nothing,
 }
 
+// The offset and the size of a block that has one and declares something.
 pub enum Block {
-    Some(Place),
+    Some(u32, u32),
     Nothing,
+}
+
+impl TypeLib {
+    // The typeinfos of the library.
+    pub fn typeinfos(self) -> TypeInfoCursor
+        ensures { λ r. ⌜ r .index ≡ 0 ⌝ }
+    {
+        TypeInfoCursor { index: 0 }
+    }
+
+    // The function records of a typeinfo.
+    pub fn funcs(self, s: &[u8], ti: TypeInfoEntry) -> FuncsAnswer
+        ensures { λ r. ⌜ toldFuncs r ≡ funcsOf (now (s .entry)) ti ⌝ }
+    {
+        match field::field_u32(s, ti.at, ti.len, 0x64, 0x04) {
+            U32Answer::Value(memoffset) => match typeinfos::declared_counts(s, ti) {
+                CountsAnswer::Value(c) => FuncsAnswer::Value(func_cursor(s, memoffset, c.funcs)),
+                CountsAnswer::Refused(n) => FuncsAnswer::Refused(n),
+            },
+            U32Answer::Refused(n) => FuncsAnswer::Refused(n),
+        }
+    }
+
+    // The variable records of a typeinfo, behind its function records.
+    pub fn vars(self, s: &[u8], ti: TypeInfoEntry) -> VarsAnswer
+        ensures { λ r. ⌜ toldVars r ≡ varsOf (now (s .entry)) ti ⌝ }
+    {
+        match field::field_u32(s, ti.at, ti.len, 0x64, 0x04) {
+            U32Answer::Value(memoffset) => match typeinfos::declared_counts(s, ti) {
+                CountsAnswer::Value(c) => VarsAnswer::Value(var_cursor(s, memoffset, c)),
+                CountsAnswer::Refused(n) => VarsAnswer::Refused(n),
+            },
+            U32Answer::Refused(n) => VarsAnswer::Refused(n),
+        }
+    }
+
+    // The entries of the GUID table.
+    pub fn guids(self) -> GuidCursor
+        ensures { λ r. ⌜ r ≡ guidsOf self ⌝ }
+    {
+        let table = self.table(5);
+        GuidCursor {
+            pos: table.at,
+            end: table.at + table.len,
+        }
+    }
+
+    // The import records.
+    pub fn imports(self) -> ImportCursor
+        ensures { λ r. ⌜ r ≡ importsOf self ⌝ }
+    {
+        let table = self.table(1);
+        ImportCursor {
+            pos: table.at,
+            end: table.at + table.len,
+        }
+    }
+
+    // The import files.
+    pub fn imp_files(self) -> ImpFileCursor
+        ensures { λ r. ⌜ r ≡ impFilesOf self ⌝ }
+    {
+        let table = self.table(2);
+        ImpFileCursor {
+            pos: table.at,
+            end: table.at + table.len,
+        }
+    }
+
+    // A segment's place, or an empty one at the start of the file where it is missing.
+    fn table(self, index: usize) -> Place
+        ensures { λ r. ⌜ (r ≡ tableOf (segmentOf self index)) × (r .at + r .len < 2 ^ 32) ⌝ }
+    {
+        match self.segment(index) {
+            PlaceAnswer::Value(place) => place,
+            PlaceAnswer::Refused(_) => Place { at: 0, len: 0 },
+        }
+    }
 }
 
 impl FuncCursor {
@@ -375,4 +455,94 @@ fn imp_file_entry(s: &[u8], pos: usize, end: usize) -> PlaceAnswer
         }
         PlaceAnswer::Refused(n) => PlaceAnswer::Refused(n),
     }
+}
+
+// The block at a memoffset, where it has one and `count` records are declared.
+fn block_with(s: &[u8], memoffset: u32, count: u16) -> Block
+    ensures { λ r. ⌜ toldBlock r ≡ blockWith (now (s .entry)) memoffset count ⌝ }
+{
+    if NEGATIVE <= memoffset {
+        return Block::Nothing;
+    }
+    if count == 0 {
+        return Block::Nothing;
+    }
+    match util::read_u32_le(s, memoffset as usize) {
+        util::U32Read::Value(size) => Block::Some(memoffset, size),
+        util::U32Read::Nothing => Block::Nothing,
+    }
+}
+
+fn func_cursor(s: &[u8], memoffset: u32, count: u16) -> FuncCursor
+    ensures { λ r. ⌜ r ≡ funcCursor count (blockWith (now (s .entry)) memoffset count) ⌝ }
+{
+    match block_with(s, memoffset, count) {
+        Block::Some(at, size) => FuncCursor {
+            pos: at as usize + 4,
+            end: at as usize + 4 + size as usize,
+            remaining: count as usize,
+        },
+        Block::Nothing => FuncCursor {
+            pos: 0,
+            end: 0,
+            remaining: 0,
+        },
+    }
+}
+
+fn var_cursor(s: &[u8], memoffset: u32, c: Counts) -> VarCursor
+    ensures { λ r. ⌜ r ≡ varCursor (now (s .entry)) c (blockWith (now (s .entry)) memoffset (c .vars)) ⌝ }
+{
+    match block_with(s, memoffset, c.vars) {
+        Block::Some(at, size) => {
+            let first = at as usize + 4;
+            vars_from(
+                skip_functions(s, first, c.funcs as usize),
+                first + size as usize,
+                c.vars,
+            )
+        }
+        Block::Nothing => VarCursor {
+            pos: 0,
+            end: 0,
+            remaining: 0,
+        },
+    }
+}
+
+fn vars_from(start: Skipped, end: usize, count: u16) -> VarCursor
+    ensures { λ r. ⌜ r ≡ varsFrom end count (toldSkip start) ⌝ }
+{
+    match start {
+        Skipped::At(pos) => VarCursor {
+            pos,
+            end,
+            remaining: count as usize,
+        },
+        Skipped::Nothing => VarCursor {
+            pos: 0,
+            end: 0,
+            remaining: 0,
+        },
+    }
+}
+
+// Past `count` function records from `start` on, by their sizes alone.
+fn skip_functions(s: &[u8], start: usize, count: usize) -> Skipped
+    ensures { λ r. ⌜ toldSkip r ≡ skip count (now (s .entry)) start ⌝ }
+{
+    let mut pos = start;
+    let mut left = count;
+    while 0 < left {
+        let util::U32Read::Value(info) = util::read_u32_le(s, pos) else {
+            return Skipped::Nothing;
+        };
+        let size = util::bits(info, 0, 16) as usize;
+        if size == 0 {
+            return Skipped::At(pos);
+        }
+        pos = pos + size;
+        left = left - 1;
+    }
+    Skipped::At(pos)
 }

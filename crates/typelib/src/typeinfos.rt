@@ -172,7 +172,7 @@ pub enum CountsAnswer {
     Refused(u8),
 }
 
-fn declared_counts(s: &[u8], ti: TypeInfoEntry) -> CountsAnswer
+pub fn declared_counts(s: &[u8], ti: TypeInfoEntry) -> CountsAnswer
     ensures { λ r. ⌜ toldCounts r ≡ countsOf (now (s .entry)) ti ⌝ }
 {
     match ti.func_count(s) {
