@@ -27,6 +27,9 @@ use Rattle.records.specs.declared.guidentry.GuidAnswer.{GuidAnswer}
 use Rattle.records.specs.declared.guidentry.GuidAnswer.the-variants as guid
 use Rattle.records.specs.declared.var.VarAnswer.{VarAnswer}
 use Rattle.records.specs.declared.var.VarAnswer.the-variants as var
+use Rattle.records.specs.declared.typeinfo.KindAnswer.{KindAnswer}
+use Rattle.records.specs.declared.typeinfo.KindAnswer.the-variants as kind
+use Rattle.records.specs.declared.types.TypeKind.{TypeKind}
 use Rattle.records.specs.declared.field.Held.{Held}
 use Rattle.records.specs.declared.field.Held.the-variants as held
 
@@ -78,3 +81,7 @@ toldGuid (guid.Refused n) = refused n
 abbrev pub toldBound : BoundAnswer → Answer SafeArrayBound
 toldBound (bound.Value b) = value b
 toldBound (bound.Refused n) = refused n
+
+abbrev pub toldKind : KindAnswer → Answer TypeKind
+toldKind (kind.Value k) = value k
+toldKind (kind.Refused n) = refused n

@@ -130,7 +130,7 @@ impl FuncRecord {
     }
 
     // The number of parameters, none where it is negative.
-    fn arguments(self, s: &[u8]) -> U16Answer
+    pub fn argument_count(self, s: &[u8]) -> U16Answer
         ensures { λ r. ⌜ toldU16 r ≡ argumentCount (now (s .entry)) (self .at) (self .len) ⌝ }
     {
         match field::field_u16(s, self.at, self.len, Self::BASE_SIZE, 0x14) {
@@ -151,7 +151,7 @@ impl FuncRecord {
         ensures { λ r. ⌜ toldI32 r ≡ defaultValueOffset index (now (s .entry)) (self .at) (self .len) ⌝ }
     {
         match self.has_default_values(s) {
-            BoolAnswer::Value(present) => match self.arguments(s) {
+            BoolAnswer::Value(present) => match self.argument_count(s) {
                 U16Answer::Value(count) => self.default_at(s, index, count, present),
                 U16Answer::Refused(n) => I32Answer::Refused(n),
             },
@@ -183,7 +183,7 @@ impl FuncRecord {
         ensures { λ r. ⌜ toldU16 r ≡ funcAttributeCount (now (s .entry)) (self .at) (self .len) ⌝ }
     {
         match field::field_bits16(s, self.at, self.len, Self::BASE_SIZE, 0x00, 0, 16) {
-            U16Answer::Value(size) => match self.arguments(s) {
+            U16Answer::Value(size) => match self.argument_count(s) {
                 U16Answer::Value(count) => match self.has_default_values(s) {
                     BoolAnswer::Value(defaults) => U16Answer::Value(attribute_room(
                         size,
@@ -291,7 +291,7 @@ impl FuncRecord {
     pub fn arg_cust_data_offset(self, s: &[u8], arg_index: usize) -> I32Answer
         ensures { λ r. ⌜ toldI32 r ≡ argCustDataOffset «arg_index» (now (s .entry)) (self .at) (self .len) ⌝ }
     {
-        match self.arguments(s) {
+        match self.argument_count(s) {
             U16Answer::Value(count) => {
                 if count as usize <= arg_index {
                     return I32Answer::Refused(9);

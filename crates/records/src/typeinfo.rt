@@ -2,18 +2,26 @@
 use crate::answer::I16Answer;
 use crate::answer::I32Answer;
 use crate::answer::PlaceAnswer;
+use crate::answer::U8Answer;
 use crate::answer::U16Answer;
 use crate::answer::U32Answer;
 use crate::field;
+use crate::types::TypeKind;
 ghost use mathlib.Core.Path.{_≡_};
 ghost use Rattle.records.specs.Answer.{map};
 ghost use Rattle.records.specs.Layout.{typeInfoBase, sizeOf};
 ghost use Rattle.records.specs.Record.{field, recordPlace, signed16, signed32, bitsOf};
-ghost use Rattle.records.specs.Told.{toldI16, toldI32, toldPlace, toldU16, toldU32};
+ghost use Rattle.records.specs.Types.{kindOf};
+ghost use Rattle.records.specs.Told.{toldKind, toldI16, toldI32, toldPlace, toldU16, toldU32};
 
 pub struct TypeInfoEntry {
     pub at: usize,
     pub len: usize,
+}
+
+pub enum KindAnswer {
+    Value(TypeKind),
+    Refused(u8),
 }
 
 impl TypeInfoEntry {

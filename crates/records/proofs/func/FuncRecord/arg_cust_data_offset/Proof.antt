@@ -6,8 +6,8 @@ use borrow.Author.Needs.{needs}
 use Rattle.records.proofs.func.FuncRecord.arg_cust_data_offset.Statement.{statement}
 use Rattle.records.proofs.func.FuncRecord.arg_cust_data_offset.Tie as tie
 
-arguments-requires : tie.Need-arguments-requires
-arguments-requires c κs = search needs
+argument-count-requires : tie.Need-argument-count-requires
+argument-count-requires c κs = search needs
 
 enum-known-count : tie.Need-enum-known-count
 enum-known-count c = search needs
@@ -16,7 +16,7 @@ cast-if1 : tie.Need-cast-if1
 cast-if1 c = search needs
 
 returns : tie.Need-returns
-returns c = bind-value _ _ _ _ (tells toldU16 (c .before .before .count .given .1) (c .before .before .before .before .arguments .ensures)) (when-true _ _ _ _ (le-leb _ _ (c .if1 .taken)) refl)
+returns c = bind-value _ _ _ _ (tells toldU16 (c .before .before .count .given .1) (c .before .before .before .before .argument-count .ensures)) (when-true _ _ _ _ (le-leb _ _ (c .if1 .taken)) refl)
 
 add-custom : tie.Need-add-custom
 add-custom c = search needs
@@ -28,16 +28,16 @@ enum-known-n : tie.Need-enum-known-n
 enum-known-n c = search needs
 
 returns-2 : tie.Need-returns-2
-returns-2 c = bind-value _ _ _ _ (tells toldU16 (c .before .before .before .count .given .1) (c .before .before .before .before .before .arguments .ensures)) (when-false _ _ _ _ (lt-leb _ _ (c .before .if1 .left)) (c .custom .ensures))
+returns-2 c = bind-value _ _ _ _ (tells toldU16 (c .before .before .before .count .given .1) (c .before .before .before .before .before .argument-count .ensures)) (when-false _ _ _ _ (lt-leb _ _ (c .before .if1 .left)) (c .custom .ensures))
 
 returns-3 : tie.Need-returns-3
-returns-3 c = bind-refused _ _ _ (tells toldU16 (c .before .n .given .1) (c .before .before .before .arguments .ensures))
+returns-3 c = bind-refused _ _ _ (tells toldU16 (c .before .n .given .1) (c .before .before .before .argument-count .ensures))
 
 pub arg-cust-data-offset-spec : {M : Type 1} → statement M
 arg-cust-data-offset-spec =
     tie.close
     (tie.spec
-    arguments-requires
+    argument-count-requires
     enum-known-count
     cast-if1
     returns

@@ -10,8 +10,8 @@ has-default-values-requires c κs = search needs
 enum-known-present : tie.Need-enum-known-present
 enum-known-present c = search needs
 
-arguments-requires : tie.Need-arguments-requires
-arguments-requires c κs = search needs
+argument-count-requires : tie.Need-argument-count-requires
+argument-count-requires c κs = search needs
 
 enum-known-count : tie.Need-enum-known-count
 enum-known-count c = search needs
@@ -26,10 +26,10 @@ enum-known-n-2 : tie.Need-enum-known-n-2
 enum-known-n-2 c = search needs
 
 returns : tie.Need-returns
-returns c = bind-value _ _ _ _ (tells toldBool (c .before .before .before .before .before .before .present .given .1) (c .before .before .before .before .before .before .before .before .has-default-values .ensures)) (bind-value _ _ _ _ (tells toldU16 (c .before .before .count .given .1) (c .before .before .before .before .arguments .ensures)) (c .default-at .ensures))
+returns c = bind-value _ _ _ _ (tells toldBool (c .before .before .before .before .before .before .present .given .1) (c .before .before .before .before .before .before .before .before .has-default-values .ensures)) (bind-value _ _ _ _ (tells toldU16 (c .before .before .count .given .1) (c .before .before .before .before .argument-count .ensures)) (c .default-at .ensures))
 
 returns-2 : tie.Need-returns-2
-returns-2 c = bind-value _ _ _ _ (tells toldBool (c .before .before .before .before .before .present .given .1) (c .before .before .before .before .before .before .before .has-default-values .ensures)) (bind-refused _ _ _ (tells toldU16 (c .before .n .given .1) (c .before .before .before .arguments .ensures)))
+returns-2 c = bind-value _ _ _ _ (tells toldBool (c .before .before .before .before .before .present .given .1) (c .before .before .before .before .before .before .before .has-default-values .ensures)) (bind-refused _ _ _ (tells toldU16 (c .before .n .given .1) (c .before .before .before .argument-count .ensures)))
 
 returns-3 : tie.Need-returns-3
 returns-3 c = bind-refused _ _ _ (tells toldBool (c .before .n2 .given .1) (c .before .before .before .has-default-values .ensures))
@@ -40,7 +40,7 @@ default-value-offset-spec =
     (tie.spec
     has-default-values-requires
     enum-known-present
-    arguments-requires
+    argument-count-requires
     enum-known-count
     default-at-requires
     enum-known-n

@@ -10,8 +10,8 @@ field-bits16-requires c κs = search needs
 enum-known-size : tie.Need-enum-known-size
 enum-known-size c = search needs
 
-arguments-requires : tie.Need-arguments-requires
-arguments-requires c κs = search needs
+argument-count-requires : tie.Need-argument-count-requires
+argument-count-requires c κs = search needs
 
 enum-known-count : tie.Need-enum-known-count
 enum-known-count c = search needs
@@ -35,13 +35,13 @@ enum-known-n-3 : tie.Need-enum-known-n-3
 enum-known-n-3 c = search needs
 
 returns : tie.Need-returns
-returns c = bind-value _ _ _ _ (tells toldU16 (c .before .before .before .before .before .before .before .before .before .before .size .given .1) (c .before .before .before .before .before .before .before .before .before .before .before .before .field-bits16 .ensures)) (bind-value _ _ _ _ (tells toldU16 (c .before .before .before .before .before .before .count .given .1) (c .before .before .before .before .before .before .before .before .arguments .ensures)) (map-value _ _ _ _ (tells toldBool (c .before .before .defaults .given .1) (c .before .before .before .before .has-default-values .ensures)) (c .attribute-room .ensures)))
+returns c = bind-value _ _ _ _ (tells toldU16 (c .before .before .before .before .before .before .before .before .before .before .size .given .1) (c .before .before .before .before .before .before .before .before .before .before .before .before .field-bits16 .ensures)) (bind-value _ _ _ _ (tells toldU16 (c .before .before .before .before .before .before .count .given .1) (c .before .before .before .before .before .before .before .before .argument-count .ensures)) (map-value _ _ _ _ (tells toldBool (c .before .before .defaults .given .1) (c .before .before .before .before .has-default-values .ensures)) (c .attribute-room .ensures)))
 
 returns-2 : tie.Need-returns-2
-returns-2 c = bind-value _ _ _ _ (tells toldU16 (c .before .before .before .before .before .before .before .before .before .size .given .1) (c .before .before .before .before .before .before .before .before .before .before .before .field-bits16 .ensures)) (bind-value _ _ _ _ (tells toldU16 (c .before .before .before .before .before .count .given .1) (c .before .before .before .before .before .before .before .arguments .ensures)) (map-refused _ _ _ (tells toldBool (c .before .n .given .1) (c .before .before .before .has-default-values .ensures))))
+returns-2 c = bind-value _ _ _ _ (tells toldU16 (c .before .before .before .before .before .before .before .before .before .size .given .1) (c .before .before .before .before .before .before .before .before .before .before .before .field-bits16 .ensures)) (bind-value _ _ _ _ (tells toldU16 (c .before .before .before .before .before .count .given .1) (c .before .before .before .before .before .before .before .argument-count .ensures)) (map-refused _ _ _ (tells toldBool (c .before .n .given .1) (c .before .before .before .has-default-values .ensures))))
 
 returns-3 : tie.Need-returns-3
-returns-3 c = bind-value _ _ _ _ (tells toldU16 (c .before .before .before .before .before .size .given .1) (c .before .before .before .before .before .before .before .field-bits16 .ensures)) (bind-refused _ _ _ (tells toldU16 (c .before .n2 .given .1) (c .before .before .before .arguments .ensures)))
+returns-3 c = bind-value _ _ _ _ (tells toldU16 (c .before .before .before .before .before .size .given .1) (c .before .before .before .before .before .before .before .field-bits16 .ensures)) (bind-refused _ _ _ (tells toldU16 (c .before .n2 .given .1) (c .before .before .before .argument-count .ensures)))
 
 returns-4 : tie.Need-returns-4
 returns-4 c = bind-refused _ _ _ (tells toldU16 (c .before .n3 .given .1) (c .before .before .before .field-bits16 .ensures))
@@ -52,7 +52,7 @@ nrattribs-spec =
     (tie.spec
     field-bits16-requires
     enum-known-size
-    arguments-requires
+    argument-count-requires
     enum-known-count
     has-default-values-requires
     enum-known-defaults

@@ -6,8 +6,8 @@ use mir.Syntax.{w16}
 use Rattle.records.specs.Answer.{map}
 use mathlib.Core.Path.{refl}
 use borrow.Author.Needs.{needs}
-use Rattle.records.proofs.func.FuncRecord.arguments.Statement.{statement}
-use Rattle.records.proofs.func.FuncRecord.arguments.Tie as tie
+use Rattle.records.proofs.func.FuncRecord.argument_count.Statement.{statement}
+use Rattle.records.proofs.func.FuncRecord.argument_count.Tie as tie
 
 field-u16-requires : tie.Need-field-u16-requires
 field-u16-requires c κs = search needs
@@ -27,6 +27,6 @@ returns-2 c = map-value _ _ _ _ (map-value (toZ w16) _ _ _ (tells toldU16 (c .be
 returns-3 : tie.Need-returns-3
 returns-3 c = map-refused _ _ _ (map-refused (toZ w16) _ _ (tells toldU16 (c .before .n .given .1) (c .before .before .before .field-u16 .ensures)))
 
-pub arguments-spec : {M : Type 1} → statement M
-arguments-spec =
+pub argument-count-spec : {M : Type 1} → statement M
+argument-count-spec =
     tie.close (tie.spec field-u16-requires enum-known-x enum-known-n returns returns-2 returns-3)
