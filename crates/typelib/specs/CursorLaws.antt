@@ -19,7 +19,7 @@ use Rattle.typelib.specs.declared.iterators.TypeInfoCursor.{TypeInfoCurs
 use Rattle.typelib.specs.TableLaws.{lent-fits}
 use Rattle.typelib.specs.Tables.{lent, segmentPlace, segmentOf}
 use Rattle.typelib.specs.TypeInfos.{typeinfoOf}
-use Rattle.typelib.specs.Cursors.{Step, yielded, ended, sizeAt, recordAt, blockFrom, blockWith, skip, fixedAt, paramAt, impFileEntry, typeinfoStepFrom, typeinfoStep}
+use Rattle.typelib.specs.Cursors.{Step, yielded, ended, sizeAt, recordAt, blockFrom, blockWith, skip, fixedAt, paramCursor, paramAt, impFileEntry, typeinfoStepFrom, typeinfoStep}
 
 -- ---- records that carry their length
 
@@ -278,3 +278,13 @@ small lib k p =
       start = omega (arith, leb-false 0x80000000 (e .offset) h1);
       size = omega (arith, leb-false 0x80000000 (e .length) h2);
     }))))
+
+-- ---- the parameters' cursor
+
+pub params-none : (r : Place) (n : ℕ) → r .len < 12 * n → record { pos = 0; end = 0; remaining = 0 } ≡ paramCursor r n
+unfolding paramCursor
+params-none r n h = rw (lt-ltb (r .len) (12 * n) h)
+
+pub params-there : (r : Place) (n : ℕ) → 12 * n ≤ r .len → record { pos = r .at + (r .len - 12 * n); end = r .at + r .len; remaining = n } ≡ paramCursor r n
+unfolding paramCursor
+params-there r n h = rw (le-ltb (r .len) (12 * n) h)

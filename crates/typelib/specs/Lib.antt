@@ -13,4 +13,7 @@ pub mod References
 pub mod ReferenceLaws
 pub mod Cursors
 pub mod CursorLaws
+pub mod Search
+pub mod Chain
+pub mod ChainLaws
 pub mod Told

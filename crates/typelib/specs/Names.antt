@@ -2,13 +2,17 @@
 use mathlib.Core.Bool.{false}
 use mathlib.Core.List.{List, [], _∷_}
 use Prim.Native.Nat.{ℕ, _+_}
+use mir.Syntax.{w32}
+use mir.Val.{ofZ}
 use Rattle.util.specs.Read.{le}
 use Rattle.records.specs.declared.answer.Place.{Place}
 use Rattle.records.specs.Answer.{Answer, map, bind}
 use Rattle.records.specs.Counted.{textOf}
+use Rattle.records.specs.Record.{recordPlace, signed32}
 use Rattle.records.specs.Layout.{Layout, _of_, sizeOf, offsetOf, widthOf, guid}
 use Rattle.typelib.specs.declared.TypeLib.{TypeLib}
-use Rattle.typelib.specs.Tables.{tablePlace}
+use Rattle.typelib.specs.Header.{headerField}
+use Rattle.typelib.specs.Tables.{lent, segmentOf, tablePlace}
 
 -- MSFT_NameIntro, before a name; of the third word "only lower 8 bits are valid" as the name's length
 abbrev pub nameIntro : Layout
@@ -42,3 +46,19 @@ stringText s lib offset = textOf s (stringBytes s lib offset)
 -- a GUID of segment 5, at any offset
 abbrev pub guidPlace : List ℕ → TypeLib → ℕ → Answer Place
 guidPlace s lib offset = tablePlace false s lib 5 offset (sizeOf guid)
+
+-- ---- a segment's bytes
+
+abbrev pub segmentBytes : List ℕ → TypeLib → ℕ → Answer Place
+segmentBytes s lib k = lent s (bind (segmentOf lib k) (λ p. recordPlace 0 s (p .at) (p .len)))
+
+-- ---- the library's own name, GUID and help string, by their offsets in the header
+
+abbrev pub libName : List ℕ → TypeLib → Answer Place
+libName s lib = bind (signed32 (headerField "NameOffset" s)) (λ offset. nameText s lib (ofZ w32 offset))
+
+abbrev pub libGuid : List ℕ → TypeLib → Answer Place
+libGuid s lib = bind (signed32 (headerField "posguid" s)) (λ offset. guidPlace s lib (ofZ w32 offset))
+
+abbrev pub libHelpstring : List ℕ → TypeLib → Answer Place
+libHelpstring s lib = bind (signed32 (headerField "helpstring" s)) (λ offset. stringText s lib (ofZ w32 offset))

@@ -14,8 +14,9 @@ use mir.Val.{SFits, toZ, ofZ}
 use mir.ValLaws.{toZ-ofZ}
 use Rattle.util.specs.Read.{cond-elim}
 use Rattle.records.specs.declared.answer.Place.{Place}
-use Rattle.records.specs.Answer.{Answer, value, refused, bind}
-use Rattle.records.specs.Record.{limit}
+use Rattle.records.specs.Answer.{Answer, value, refused, map, bind}
+use Rattle.records.specs.RecordLaws.{held-elim}
+use Rattle.records.specs.Record.{limit, held, recordPlace}
 use Rattle.typelib.specs.declared.Segment.{Segment}
 use Rattle.typelib.specs.declared.TypeLib.{TypeLib}
 use Rattle.typelib.specs.Tables.{lent, segmentPlace, segmentOf, inTable, placeIn, tablePlace}
@@ -136,3 +137,29 @@ found strict s lib k offset size p =
 -- a signed number and its 32-bit pattern, as a call hands it on
 pub pattern : (z : ℤ) (r : ℕ) → SFits w32 z → r ≡ ofZ w32 (toZ w32 (ofZ w32 z)) → r ≡ ofZ w32 z
 pattern z r f e = e ∙ ap (ofZ w32) (toZ-ofZ w32 z f)
+
+-- ---- the place of a record
+
+pub record-lent : (fixed : ℕ) (s : List ℕ) (at len : ℕ) → recordPlace fixed s at len ≡ lent s (recordPlace fixed s at len)
+unfolding held lent
+record-lent fixed s at len = go (ltb limit (length s))
+  where
+    rest : Answer Unit
+    rest = cond (ltb len fixed) (refused 9) (cond (leb (at + len) (length s)) (value tt) (refused 9))
+
+    placed : Answer Unit → Answer Place
+    placed h = map (λ _. record { at = at; len = len }) h
+
+    go : (b : Bool) → placed (cond b (refused 1) rest) ≡ cond b (refused 1) (placed (cond b (refused 1) rest))
+    go true = refl
+    go false = refl
+
+pub record-inside : (fixed : ℕ) (s : List ℕ) (at len : ℕ) (p : Place) → value p ≡ recordPlace fixed s at len → p .at + p .len ≤ length s
+record-inside fixed s at len p =
+    held-elim (λ (h : Answer Unit). value p ≡ map (λ _. record { at = at; len = len }) h → p .at + p .len ≤ length s) s at len fixed
+    (λ h e.
+    let q : p ≡ record { at = at; len = len } = cc in
+    let a : p .at ≡ at = ap (λ (x : Place). x .at) q in
+    let b : p .len ≡ len = ap (λ (x : Place). x .len) q in
+    omega (arith, h .inside))
+    (λ n e. let z : _≡_ {A = ℕ} 0 1 = cc in absurd (omega arith))

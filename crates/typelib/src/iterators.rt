@@ -166,6 +166,19 @@ impl TypeLib {
         }
     }
 
+    // The parameters of a function, at the end of its record.
+    pub fn params(self, s: &[u8], func: FuncRecord) -> ParamsAnswer
+        ensures { λ r. ⌜ toldParams r ≡ paramsOf (now (s .entry)) func ⌝ }
+    {
+        match func.as_bytes(s) {
+            PlaceAnswer::Value(place) => match func.argument_count(s) {
+                U16Answer::Value(count) => ParamsAnswer::Value(param_cursor(place, count)),
+                U16Answer::Refused(n) => ParamsAnswer::Refused(n),
+            },
+            PlaceAnswer::Refused(n) => ParamsAnswer::Refused(n),
+        }
+    }
+
     // The entries of the GUID table.
     pub fn guids(self) -> GuidCursor
         ensures { λ r. ⌜ r ≡ guidsOf self ⌝ }
@@ -200,7 +213,7 @@ impl TypeLib {
     }
 
     // A segment's place, or an empty one at the start of the file where it is missing.
-    fn table(self, index: usize) -> Place
+    pub fn table(self, index: usize) -> Place
         ensures { λ r. ⌜ (r ≡ tableOf (segmentOf self index)) × (r .at + r .len < 2 ^ 32) ⌝ }
     {
         match self.segment(index) {
@@ -405,7 +418,8 @@ fn record_at(s: &[u8], pos: usize, end: usize, remaining: usize, least: usize) -
     if size < least {
         return UsizeAnswer::Refused(9);
     }
-    if s.len() - pos < size {
+    let room = s.len() - pos;
+    if room < size {
         return UsizeAnswer::Refused(9);
     }
     UsizeAnswer::Value(size)
@@ -545,4 +559,24 @@ fn skip_functions(s: &[u8], start: usize, count: usize) -> Skipped
         left = left - 1;
     }
     Skipped::At(pos)
+}
+
+fn param_cursor(place: Place, count: u16) -> ParamCursor
+    requires { ⌜ place .at + place .len < 2 ^ 63 ⌝ }
+    ensures { λ r. ⌜ r ≡ paramCursor place count ⌝ }
+{
+    let size = 12 * (count as usize);
+    let len = place.len;
+    if len < size {
+        return ParamCursor {
+            pos: 0,
+            end: 0,
+            remaining: 0,
+        };
+    }
+    ParamCursor {
+        pos: place.at + (len - size),
+        end: place.at + len,
+        remaining: count as usize,
+    }
 }

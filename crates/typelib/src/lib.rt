@@ -7,6 +7,7 @@ use records::answer::Place;
 
 pub mod descriptors;
 mod header;
+pub mod impltypes;
 pub mod iterators;
 mod names;
 pub mod references;

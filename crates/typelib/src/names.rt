@@ -7,12 +7,16 @@ use records::answer;
 use records::answer::I32Answer;
 use records::answer::Place;
 use records::answer::PlaceAnswer;
+use records::guid::Guid;
+use records::guidentry::GuidAnswer;
 ghost use mathlib.Core.Path.{_≡_};
 ghost use Prim.Native.Nat.{_<_};
 ghost use mir.Syntax.{w32};
 ghost use mir.Val.{ofZ};
-ghost use Rattle.records.specs.Told.{toldPlace};
-ghost use Rattle.typelib.specs.Names.{nameBehind, nameBytes, nameText, stringBehind, stringBytes, stringText, guidPlace};
+ghost use Rattle.records.specs.Told.{toldGuid, toldPlace};
+ghost use Rattle.records.specs.Answer.{refused};
+ghost use Rattle.typelib.specs.Tables.{lent};
+ghost use Rattle.typelib.specs.Names.{nameBehind, nameBytes, nameText, stringBehind, stringBytes, stringText, guidPlace, segmentBytes, libName, libGuid, libHelpstring};
 
 const NAME_TABLE: usize = 7;
 
@@ -92,9 +96,84 @@ impl TypeLib {
         }
     }
 
+    // The GUID at an offset of its table.
+    pub fn guid(self, s: &[u8], offset: i32) -> GuidAnswer
+        ensures { λ r. ⌜ toldGuid r ≡ guidPlace (now (s .entry)) self (ofZ w32 offset) ⌝ }
+    {
+        match self.guid_at(s, util::unsigned32(offset)) {
+            PlaceAnswer::Value(place) => GuidAnswer::Value(Guid {
+                at: place.at,
+                len: place.len,
+            }),
+            PlaceAnswer::Refused(n) => GuidAnswer::Refused(n),
+        }
+    }
+
     pub fn guid_at(self, s: &[u8], offset: u32) -> PlaceAnswer
         ensures { λ r. ⌜ toldPlace r ≡ guidPlace (now (s .entry)) self offset ⌝ }
     {
         self.table_place(s, GUID_TABLE, offset, 16, false)
     }
+
+    // The bytes of a segment; 9 where it is missing or passes the file's end.
+    pub fn segment_data(self, s: &[u8], index: usize) -> PlaceAnswer
+        ensures { λ r. ⌜ toldPlace r ≡ segmentBytes (now (s .entry)) self index ⌝ }
+    {
+        match self.segment(index) {
+            PlaceAnswer::Value(place) => records::field::record_place(s, place.at, place.len, 0),
+            PlaceAnswer::Refused(n) => over_long(s, n),
+        }
+    }
+
+    pub fn guid_hash_data(self, s: &[u8]) -> PlaceAnswer
+        ensures { λ r. ⌜ toldPlace r ≡ segmentBytes (now (s .entry)) self 4 ⌝ }
+    {
+        self.segment_data(s, 4)
+    }
+
+    pub fn name_hash_data(self, s: &[u8]) -> PlaceAnswer
+        ensures { λ r. ⌜ toldPlace r ≡ segmentBytes (now (s .entry)) self 6 ⌝ }
+    {
+        self.segment_data(s, 6)
+    }
+
+    // The library's own name, where it is UTF-8.
+    pub fn lib_name(self, s: &[u8]) -> PlaceAnswer
+        ensures { λ r. ⌜ toldPlace r ≡ libName (now (s .entry)) self ⌝ }
+    {
+        match self.name_offset(s) {
+            I32Answer::Value(offset) => self.name(s, offset),
+            I32Answer::Refused(n) => PlaceAnswer::Refused(n),
+        }
+    }
+
+    // The library's own GUID.
+    pub fn lib_guid(self, s: &[u8]) -> GuidAnswer
+        ensures { λ r. ⌜ toldGuid r ≡ libGuid (now (s .entry)) self ⌝ }
+    {
+        match self.lib_guid_offset(s) {
+            I32Answer::Value(offset) => self.guid(s, offset),
+            I32Answer::Refused(n) => GuidAnswer::Refused(n),
+        }
+    }
+
+    // The library's help string, where it is UTF-8.
+    pub fn lib_helpstring(self, s: &[u8]) -> PlaceAnswer
+        ensures { λ r. ⌜ toldPlace r ≡ libHelpstring (now (s .entry)) self ⌝ }
+    {
+        match self.helpstring_offset(s) {
+            I32Answer::Value(offset) => self.string(s, offset),
+            I32Answer::Refused(n) => PlaceAnswer::Refused(n),
+        }
+    }
+}
+
+// The refusal, or 1 where more bytes than the limit are lent.
+fn over_long(s: &[u8], number: u8) -> PlaceAnswer
+    ensures { λ r. ⌜ toldPlace r ≡ lent (now (s .entry)) (refused number) ⌝ }
+{
+    if 16_777_216 < s.len() {
+        return PlaceAnswer::Refused(1);
+    }
+    PlaceAnswer::Refused(number)
 }

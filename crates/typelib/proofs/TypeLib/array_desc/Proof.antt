@@ -4,20 +4,13 @@ use mathlib.Core.Path.{_∙_, ap}
 use borrow.Author.Needs.{needs}
 use Rattle.typelib.proofs.TypeLib.array_desc.Statement.{statement}
 use Rattle.typelib.proofs.TypeLib.array_desc.Tie as tie
-use Rattle.typelib.proofs.TypeLib.array_desc.Reads as reads
-use Rattle.typelib.proofs.TypeLib.array_desc.Lts as lts
-use Rattle.typelib.proofs.TypeLib.array_desc_at.Reads as array-desc-at-reads
-use Rattle.util.proofs.unsigned32.Reads as unsigned32-reads
 
--- src/descriptors.rt:57:31
 unsigned32-requires : tie.Need-unsigned32-requires
 unsigned32-requires c κs = search needs
 
--- src/descriptors.rt:57:9
 array-desc-at-requires : tie.Need-array-desc-at-requires
 array-desc-at-requires c κs = search needs
 
--- src/descriptors.rt:54:5
 returns : tie.Need-returns
 returns c = c .array-desc-at .ensures ∙ ap (arrayDescAt (c .before .before .before .args .s .now) (c .before .before .before .args .self)) (pattern (c .before .before .before .args .offset) _ (c .before .before .before .fits .offset) (c .before .unsigned32 .ensures))
 

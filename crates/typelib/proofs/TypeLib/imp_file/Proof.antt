@@ -4,20 +4,13 @@ use mathlib.Core.Path.{_∙_, ap}
 use borrow.Author.Needs.{needs}
 use Rattle.typelib.proofs.TypeLib.imp_file.Statement.{statement}
 use Rattle.typelib.proofs.TypeLib.imp_file.Tie as tie
-use Rattle.typelib.proofs.TypeLib.imp_file.Reads as reads
-use Rattle.typelib.proofs.TypeLib.imp_file.Lts as lts
-use Rattle.typelib.proofs.TypeLib.imp_file_at.Reads as imp-file-at-reads
-use Rattle.util.proofs.unsigned32.Reads as unsigned32-reads
 
--- src/references.rt:50:29
 unsigned32-requires : tie.Need-unsigned32-requires
 unsigned32-requires c κs = search needs
 
--- src/references.rt:50:9
 imp-file-at-requires : tie.Need-imp-file-at-requires
 imp-file-at-requires c κs = search needs
 
--- src/references.rt:47:5
 returns : tie.Need-returns
 returns c = c .imp-file-at .ensures ∙ ap (impFileAt (c .before .before .before .args .s .now) (c .before .before .before .args .self)) (pattern (c .before .before .before .args .offset) _ (c .before .before .before .fits .offset) (c .before .unsigned32 .ensures))
 

@@ -10,68 +10,49 @@ use mathlib.Core.Path.{_∙_, ap}
 use borrow.Author.Needs.{needs}
 use Rattle.typelib.proofs.TypeLib.imp_file_at.Statement.{statement}
 use Rattle.typelib.proofs.TypeLib.imp_file_at.Tie as tie
-use Rattle.typelib.proofs.TypeLib.imp_file_at.Reads as reads
-use Rattle.typelib.proofs.TypeLib.imp_file_at.Lts as lts
-use Rattle.typelib.proofs.TypeLib.table_place.Reads as table-place-reads
-use Rattle.util.proofs.u16_or_zero.Reads as u16-or-zero-reads
 
--- src/references.rt:56:15
 table-place-requires : tie.Need-table-place-requires
 table-place-requires c κs = search needs
 
--- src/references.rt:57:32
 enum-known-head : tie.Need-enum-known-head
 enum-known-head c = search needs
 
--- src/references.rt:58:50
 add-u16-or-zero : tie.Need-add-u16-or-zero
 add-u16-or-zero c = let h = found true (c .before .before .before .before .before .before .args .s .now) (c .before .before .before .before .before .before .args .self) 2 (c .before .before .before .before .before .before .args .offset) 14 (c .before .before .head .given .0 .0) (tells toldPlace (c .before .before .head .given .1) (c .before .before .before .before .table-place .ensures)) in omega arith
 
--- src/references.rt:58:29
 u16-or-zero-requires : tie.Need-u16-or-zero-requires
 u16-or-zero-requires c κs = search needs
 
--- src/references.rt:58:28
 cast-name : tie.Need-cast-name
 cast-name c = search needs
 
--- src/references.rt:59:66
 add-table-place : tie.Need-add-table-place
 add-table-place c = search needs
 
--- src/references.rt:59:66
 add-table-place-2 : tie.Need-add-table-place-2
 add-table-place-2 c = search needs
 
--- src/references.rt:59:65
 mul-table-place : tie.Need-mul-table-place
 mul-table-place c = search needs
 
--- src/references.rt:59:23
 table-place-requires-2 : tie.Need-table-place-requires-2
 table-place-requires-2 c κs = search needs
 
--- src/references.rt:60:40
 enum-known-place : tie.Need-enum-known-place
 enum-known-place c = search needs
 
--- src/references.rt:64:42
 enum-known-n : tie.Need-enum-known-n
 enum-known-n c = search needs
 
--- src/references.rt:67:34
 enum-known-n-2 : tie.Need-enum-known-n-2
 enum-known-n-2 c = search needs
 
--- src/references.rt:53:5
 returns : tie.Need-returns
 returns c = bind-value _ _ _ _ (tells toldPlace (c .before .before .before .before .before .before .before .head .given .1) (c .before .before .before .before .before .before .before .before .before .table-place .ensures)) ((tells toldPlace (c .before .place .given .1) (c .before .before .before .table-place2 .ensures)) ∙ ap (λ (n : ℕ). tablePlace false (c .before .before .before .before .before .before .before .before .before .before .before .args .s .now) (c .before .before .before .before .before .before .before .before .before .before .before .args .self) 2 (c .before .before .before .before .before .before .before .before .before .before .before .args .offset) ((n / 4 + 14 + 3) / 4 * 4)) (read-zero 2 (c .before .before .before .before .before .before .before .before .before .before .before .args .s .now) (c .before .before .before .before .before .before .before .head .given .0 .0 .at + 12) _ (let h = found true (c .before .before .before .before .before .before .before .before .before .before .before .args .s .now) (c .before .before .before .before .before .before .before .before .before .before .before .args .self) 2 (c .before .before .before .before .before .before .before .before .before .before .before .args .offset) 14 (c .before .before .before .before .before .before .before .head .given .0 .0) (tells toldPlace (c .before .before .before .before .before .before .before .head .given .1) (c .before .before .before .before .before .before .before .before .before .table-place .ensures)) in omega arith) (c .before .before .before .before .u16-or-zero .ensures)))
 
--- src/references.rt:53:5
 returns-2 : tie.Need-returns-2
 returns-2 c = bind-value _ _ _ _ (tells toldPlace (c .before .before .before .before .before .before .before .head .given .1) (c .before .before .before .before .before .before .before .before .before .table-place .ensures)) (tells toldPlace (c .before .n .given .1) (c .before .before .before .table-place2 .ensures) ∙ ap (λ (n : ℕ). tablePlace false (c .before .before .before .before .before .before .before .before .before .before .before .args .s .now) (c .before .before .before .before .before .before .before .before .before .before .before .args .self) 2 (c .before .before .before .before .before .before .before .before .before .before .before .args .offset) ((n / 4 + 14 + 3) / 4 * 4)) (read-zero 2 (c .before .before .before .before .before .before .before .before .before .before .before .args .s .now) (c .before .before .before .before .before .before .before .head .given .0 .0 .at + 12) _ (let h = found true (c .before .before .before .before .before .before .before .before .before .before .before .args .s .now) (c .before .before .before .before .before .before .before .before .before .before .before .args .self) 2 (c .before .before .before .before .before .before .before .before .before .before .before .args .offset) 14 (c .before .before .before .before .before .before .before .head .given .0 .0) (tells toldPlace (c .before .before .before .before .before .before .before .head .given .1) (c .before .before .before .before .before .before .before .before .before .table-place .ensures)) in omega arith) (c .before .before .before .before .u16-or-zero .ensures)))
 
--- src/references.rt:53:5
 returns-3 : tie.Need-returns-3
 returns-3 c = bind-refused _ _ _ (tells toldPlace (c .before .n2 .given .1) (c .before .before .before .table-place .ensures))
 

@@ -10,41 +10,28 @@ use mathlib.Core.Path.{_∙_, ap}
 use borrow.Author.Needs.{needs}
 use Rattle.typelib.proofs.TypeLib.import_at.Statement.{statement}
 use Rattle.typelib.proofs.TypeLib.import_at.Tie as tie
-use Rattle.typelib.proofs.TypeLib.import_at.Reads as reads
-use Rattle.typelib.proofs.TypeLib.import_at.Lts as lts
-use Rattle.typelib.proofs.TypeLib.imp_file_at.Reads as imp-file-at-reads
-use Rattle.typelib.proofs.TypeLib.table_place.Reads as table-place-reads
-use Rattle.util.proofs.u32_or_zero.Reads as u32-or-zero-reads
 
--- src/references.rt:128:15
 table-place-requires : tie.Need-table-place-requires
 table-place-requires c κs = search needs
 
--- src/references.rt:129:32
 enum-known-place : tie.Need-enum-known-place
 enum-known-place c = search needs
 
--- src/references.rt:134:69
 add-u32-or-zero : tie.Need-add-u32-or-zero
 add-u32-or-zero c = let h = found true (c .before .before .before .before .before .before .args .s .now) (c .before .before .before .before .before .before .args .self) 1 (c .before .before .before .before .before .before .args .offset .0) 12 (c .before .before .place .given .0 .0) (tells toldPlace (c .before .before .place .given .1) (c .before .before .before .before .table-place .ensures)) in omega arith
 
--- src/references.rt:134:48
 u32-or-zero-requires : tie.Need-u32-or-zero-requires
 u32-or-zero-requires c κs = search needs
 
--- src/references.rt:134:21
 imp-file-at-requires : tie.Need-imp-file-at-requires
 imp-file-at-requires c κs = search needs
 
--- src/references.rt:137:34
 enum-known-n : tie.Need-enum-known-n
 enum-known-n c = search needs
 
--- src/references.rt:125:5
 returns : tie.Need-returns
 returns c = map-value _ _ _ _ (tells toldPlace (c .before .before .before .before .place .given .1) (c .before .before .before .before .before .before .table-place .ensures)) (ap (external (c .before .before .before .before .place .given .0 .0)) (c .imp-file-at .ensures ∙ ap (impFileAt (c .before .before .before .before .before .before .before .before .args .s .now) (c .before .before .before .before .before .before .before .before .args .self)) (read-zero 4 (c .before .before .before .before .before .before .before .before .args .s .now) (c .before .before .before .before .place .given .0 .0 .at + 4) _ (let h = found true (c .before .before .before .before .before .before .before .before .args .s .now) (c .before .before .before .before .before .before .before .before .args .self) 1 (c .before .before .before .before .before .before .before .before .args .offset .0) 12 (c .before .before .before .before .place .given .0 .0) (tells toldPlace (c .before .before .before .before .place .given .1) (c .before .before .before .before .before .before .table-place .ensures)) in omega arith) (c .before .u32-or-zero .ensures))))
 
--- src/references.rt:125:5
 returns-2 : tie.Need-returns-2
 returns-2 c = map-refused _ _ _ (tells toldPlace (c .before .n .given .1) (c .before .before .before .table-place .ensures))
 

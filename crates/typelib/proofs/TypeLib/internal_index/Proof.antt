@@ -2,18 +2,13 @@ use Rattle.typelib.specs.ReferenceLaws.{index-there, index-beyond}
 use borrow.Author.Needs.{needs}
 use Rattle.typelib.proofs.TypeLib.internal_index.Statement.{statement}
 use Rattle.typelib.proofs.TypeLib.internal_index.Tie as tie
-use Rattle.typelib.proofs.TypeLib.internal_index.Reads as reads
-use Rattle.typelib.proofs.TypeLib.internal_index.Lts as lts
 
--- src/references.rt:91:53
 cast-t5 : tie.Need-cast-t5
 cast-t5 c = search needs
 
--- src/references.rt:91:13
 returns : tie.Need-returns
 returns c = index-there _ _ (c .if1 .taken)
 
--- src/references.rt:86:5
 returns-2 : tie.Need-returns-2
 returns-2 c = index-beyond _ _ (c .if1 .left)
 

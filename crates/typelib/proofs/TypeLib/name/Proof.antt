@@ -5,25 +5,16 @@ use mathlib.Core.Path.{_∙_, ap}
 use borrow.Author.Needs.{needs}
 use Rattle.typelib.proofs.TypeLib.name.Statement.{statement}
 use Rattle.typelib.proofs.TypeLib.name.Tie as tie
-use Rattle.typelib.proofs.TypeLib.name.Reads as reads
-use Rattle.typelib.proofs.TypeLib.name.Lts as lts
-use Rattle.records.proofs.answer.text.Reads as text-reads
-use Rattle.typelib.proofs.TypeLib.name_at.Reads as name-at-reads
-use Rattle.util.proofs.unsigned32.Reads as unsigned32-reads
 
--- src/names.rt:35:41
 unsigned32-requires : tie.Need-unsigned32-requires
 unsigned32-requires c κs = search needs
 
--- src/names.rt:35:25
 name-at-requires : tie.Need-name-at-requires
 name-at-requires c κs = search needs
 
--- src/names.rt:35:9
 text-requires : tie.Need-text-requires
 text-requires c κs = search needs
 
--- src/names.rt:32:5
 returns : tie.Need-returns
 returns c = c .text .ensures ∙ ap (textOf (c .before .before .before .before .args .s .now)) (c .before .name-at .ensures ∙ ap (nameBytes (c .before .before .before .before .args .s .now) (c .before .before .before .before .args .self)) (pattern (c .before .before .before .before .args .offset) _ (c .before .before .before .before .fits .offset) (c .before .before .unsigned32 .ensures)))
 

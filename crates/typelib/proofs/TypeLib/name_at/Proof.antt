@@ -10,45 +10,31 @@ use mathlib.Core.Path.{_∙_, ap}
 use borrow.Author.Needs.{needs}
 use Rattle.typelib.proofs.TypeLib.name_at.Statement.{statement}
 use Rattle.typelib.proofs.TypeLib.name_at.Tie as tie
-use Rattle.typelib.proofs.TypeLib.name_at.Reads as reads
-use Rattle.typelib.proofs.TypeLib.name_at.Lts as lts
-use Rattle.typelib.proofs.TypeLib.name_behind.Reads as name-behind-reads
-use Rattle.typelib.proofs.TypeLib.table_place.Reads as table-place-reads
-use Rattle.util.proofs.u8_or_zero.Reads as u8-or-zero-reads
 
--- src/names.rt:41:15
 table-place-requires : tie.Need-table-place-requires
 table-place-requires c κs = search needs
 
--- src/names.rt:42:32
 enum-known-intro : tie.Need-enum-known-intro
 enum-known-intro c = search needs
 
--- src/names.rt:43:47
 add-u8-or-zero : tie.Need-add-u8-or-zero
 add-u8-or-zero c = let h = found false (c .before .before .before .before .before .before .args .s .now) (c .before .before .before .before .before .before .args .self) 7 (c .before .before .before .before .before .before .args .offset) 9 (c .before .before .intro .given .0 .0) (tells toldPlace (c .before .before .intro .given .1) (c .before .before .before .before .table-place .ensures)) in omega arith
 
--- src/names.rt:43:27
 u8-or-zero-requires : tie.Need-u8-or-zero-requires
 u8-or-zero-requires c κs = search needs
 
--- src/names.rt:43:27
 cast-len : tie.Need-cast-len
 cast-len c = search needs
 
--- src/names.rt:44:17
 name-behind-requires : tie.Need-name-behind-requires
 name-behind-requires c κs = search needs
 
--- src/names.rt:46:34
 enum-known-n : tie.Need-enum-known-n
 enum-known-n c = search needs
 
--- src/names.rt:38:5
 returns : tie.Need-returns
 returns c = bind-value _ _ _ _ (tells toldPlace (c .before .before .before .before .intro .given .1) (c .before .before .before .before .before .before .table-place .ensures)) (c .name-behind .ensures ∙ ap (nameBehind (c .before .before .before .before .before .before .before .before .args .s .now) (c .before .before .before .before .before .before .before .before .args .self) (c .before .before .before .before .before .before .before .before .args .offset)) (read-zero 1 (c .before .before .before .before .before .before .before .before .args .s .now) (c .before .before .before .before .intro .given .0 .0 .at + 8) _ (let h = found false (c .before .before .before .before .before .before .before .before .args .s .now) (c .before .before .before .before .before .before .before .before .args .self) 7 (c .before .before .before .before .before .before .before .before .args .offset) 9 (c .before .before .before .before .intro .given .0 .0) (tells toldPlace (c .before .before .before .before .intro .given .1) (c .before .before .before .before .before .before .table-place .ensures)) in omega arith) (c .before .u8-or-zero .ensures)))
 
--- src/names.rt:38:5
 returns-2 : tie.Need-returns-2
 returns-2 c = bind-refused _ _ _ (tells toldPlace (c .before .n .given .1) (c .before .before .before .table-place .ensures))
 

@@ -8,35 +8,25 @@ use mathlib.Core.Path.{refl}
 use borrow.Author.Needs.{needs}
 use Rattle.typelib.proofs.TypeLib.name_behind.Statement.{statement}
 use Rattle.typelib.proofs.TypeLib.name_behind.Tie as tie
-use Rattle.typelib.proofs.TypeLib.name_behind.Reads as reads
-use Rattle.typelib.proofs.TypeLib.name_behind.Lts as lts
-use Rattle.typelib.proofs.TypeLib.table_place.Reads as table-place-reads
 
--- src/names.rt:54:55
 add-table-place : tie.Need-add-table-place
 add-table-place c = search needs
 
--- src/names.rt:54:15
 table-place-requires : tie.Need-table-place-requires
 table-place-requires c κs = search needs
 
--- src/names.rt:55:32
 enum-known-entry : tie.Need-enum-known-entry
 enum-known-entry c = search needs
 
--- src/names.rt:56:21
 add-t10 : tie.Need-add-t10
 add-t10 c = let h = found false (c .before .before .before .before .before .before .args .s .now) (c .before .before .before .before .before .before .args .self) 7 (c .before .before .before .before .before .before .args .offset) (12 + c .before .before .before .before .before .before .args .len) (c .before .before .entry .given .0 .0) (tells toldPlace (c .before .before .entry .given .1) (c .before .before .before .before .table-place .ensures)) in omega arith
 
--- src/names.rt:59:34
 enum-known-n : tie.Need-enum-known-n
 enum-known-n c = search needs
 
--- src/names.rt:50:5
 returns : tie.Need-returns
 returns c = map-value _ _ _ _ (tells toldPlace (c .before .before .entry .given .1) (c .before .before .before .before .table-place .ensures)) refl
 
--- src/names.rt:50:5
 returns-2 : tie.Need-returns-2
 returns-2 c = map-refused _ _ _ (tells toldPlace (c .before .n .given .1) (c .before .before .before .table-place .ensures))
 

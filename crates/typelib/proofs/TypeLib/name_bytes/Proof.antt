@@ -4,20 +4,13 @@ use mathlib.Core.Path.{_∙_, ap}
 use borrow.Author.Needs.{needs}
 use Rattle.typelib.proofs.TypeLib.name_bytes.Statement.{statement}
 use Rattle.typelib.proofs.TypeLib.name_bytes.Tie as tie
-use Rattle.typelib.proofs.TypeLib.name_bytes.Reads as reads
-use Rattle.typelib.proofs.TypeLib.name_bytes.Lts as lts
-use Rattle.typelib.proofs.TypeLib.name_at.Reads as name-at-reads
-use Rattle.util.proofs.unsigned32.Reads as unsigned32-reads
 
--- src/names.rt:28:25
 unsigned32-requires : tie.Need-unsigned32-requires
 unsigned32-requires c κs = search needs
 
--- src/names.rt:28:9
 name-at-requires : tie.Need-name-at-requires
 name-at-requires c κs = search needs
 
--- src/names.rt:25:5
 returns : tie.Need-returns
 returns c = c .name-at .ensures ∙ ap (nameBytes (c .before .before .before .args .s .now) (c .before .before .before .args .self)) (pattern (c .before .before .before .args .offset) _ (c .before .before .before .fits .offset) (c .before .unsigned32 .ensures))
 

@@ -4,47 +4,34 @@ use Rattle.records.specs.AnswerLaws.{tells}
 use borrow.Author.Needs.{needs}
 use Rattle.typelib.proofs.TypeLib.offset_word.Statement.{statement}
 use Rattle.typelib.proofs.TypeLib.offset_word.Tie as tie
-use Rattle.typelib.proofs.TypeLib.offset_word.Reads as reads
-use Rattle.typelib.proofs.TypeLib.offset_word.Lts as lts
-use Rattle.util.proofs.read_u32_le.Reads as read-u32-le-reads
 
--- src/typeinfos.rt:41:12
 cast-if1 : tie.Need-cast-if1
 cast-if1 c = search needs
 
--- src/typeinfos.rt:42:13
 returns : tie.Need-returns
 returns c = word-beyond _ _ _ (c .if1 .taken)
 
--- src/typeinfos.rt:44:36
 cast-read-u32-le : tie.Need-cast-read-u32-le
 cast-read-u32-le c = search needs
 
--- src/typeinfos.rt:44:58
 mul-read-u32-le : tie.Need-mul-read-u32-le
 mul-read-u32-le c = search needs
 
--- src/typeinfos.rt:44:36
 add-read-u32-le : tie.Need-add-read-u32-le
 add-read-u32-le c = search needs
 
--- src/typeinfos.rt:44:15
 read-u32-le-requires : tie.Need-read-u32-le-requires
 read-u32-le-requires c κs = search needs
 
--- src/typeinfos.rt:45:34
 enum-known-x : tie.Need-enum-known-x
 enum-known-x c = search needs
 
--- src/typeinfos.rt:46:39
 enum-told : tie.Need-enum-told
 enum-told c = search needs
 
--- src/typeinfos.rt:38:5
 returns-2 : tie.Need-returns-2
 returns-2 c = word-read _ _ _ _ (c .before .before .before .before .before .if1 .left) (tells toldU32 (c .before .x .given .1) (c .before .before .before .read-u32-le .ensures))
 
--- src/typeinfos.rt:38:5
 returns-3 : tie.Need-returns-3
 returns-3 c = word-read _ _ _ _ (c .before .before .before .before .if1 .left) (tells toldU32 (c .enum-told .given .1) (c .before .before .read-u32-le .ensures))
 

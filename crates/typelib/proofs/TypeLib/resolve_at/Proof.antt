@@ -7,45 +7,31 @@ use mathlib.Core.Path.{_∙_, ap, sym, refl}
 use borrow.Author.Needs.{needs}
 use Rattle.typelib.proofs.TypeLib.resolve_at.Statement.{statement}
 use Rattle.typelib.proofs.TypeLib.resolve_at.Tie as tie
-use Rattle.typelib.proofs.TypeLib.resolve_at.Reads as reads
-use Rattle.typelib.proofs.TypeLib.resolve_at.Lts as lts
-use Rattle.typelib.proofs.TypeLib.import_at.Reads as import-at-reads
-use Rattle.typelib.proofs.TypeLib.internal_index.Reads as internal-index-reads
-use Rattle.util.proofs.bits.Reads as bits-reads
 
--- src/references.rt:113:13
 bits-requires : tie.Need-bits-requires
 bits-requires c κs = search needs
 
--- src/references.rt:115:26
 internal-index-requires : tie.Need-internal-index-requires
 internal-index-requires c κs = search needs
 
--- src/references.rt:116:36
 enum-known-index : tie.Need-enum-known-index
 enum-known-index c = search needs
 
--- src/references.rt:119:38
 enum-known-n : tie.Need-enum-known-n
 enum-known-n c = search needs
 
--- src/references.rt:115:13
 returns : tie.Need-returns
 returns c = resolved-internal _ _ _ _ (sym (low-bits _ _ (c .before .before .before .before .before .bits .ensures)) ∙ c .before .before .before .before .if1 .taken) (map-value internal _ _ _ (tells toldIndex (c .before .index .given .1) (c .before .before .before .internal-index .ensures)) refl)
 
--- src/references.rt:115:13
 returns-2 : tie.Need-returns-2
 returns-2 c = resolved-internal _ _ _ _ (sym (low-bits _ _ (c .before .before .before .before .before .bits .ensures)) ∙ c .before .before .before .before .if1 .taken) (map-refused internal _ _ (tells toldIndex (c .before .n .given .1) (c .before .before .before .internal-index .ensures)))
 
--- src/references.rt:122:40
 sub-t11 : tie.Need-sub-t11
 sub-t11 c = search needs
 
--- src/references.rt:122:9
 import-at-requires : tie.Need-import-at-requires
 import-at-requires c κs = search needs
 
--- src/references.rt:110:5
 returns-3 : tie.Need-returns-3
 returns-3 c = resolved-import _ _ _ _ (λ e. c .before .if1 .left (low-bits _ _ (c .before .before .bits .ensures) ∙ e)) (c .import-at .ensures ∙ ap (λ (n : ℕ). importAt (c .before .before .before .before .args .s .now) (c .before .before .before .before .args .self) (c .before .before .before .before .args .href - n)) (low-bits _ _ (c .before .before .bits .ensures)))
 

@@ -10,41 +10,28 @@ use mathlib.Core.Path.{_∙_, ap}
 use borrow.Author.Needs.{needs}
 use Rattle.typelib.proofs.TypeLib.string_at.Statement.{statement}
 use Rattle.typelib.proofs.TypeLib.string_at.Tie as tie
-use Rattle.typelib.proofs.TypeLib.string_at.Reads as reads
-use Rattle.typelib.proofs.TypeLib.string_at.Lts as lts
-use Rattle.typelib.proofs.TypeLib.string_behind.Reads as string-behind-reads
-use Rattle.typelib.proofs.TypeLib.table_place.Reads as table-place-reads
-use Rattle.util.proofs.u16_or_zero.Reads as u16-or-zero-reads
 
--- src/names.rt:73:15
 table-place-requires : tie.Need-table-place-requires
 table-place-requires c κs = search needs
 
--- src/names.rt:74:32
 enum-known-place : tie.Need-enum-known-place
 enum-known-place c = search needs
 
--- src/names.rt:75:27
 u16-or-zero-requires : tie.Need-u16-or-zero-requires
 u16-or-zero-requires c κs = search needs
 
--- src/names.rt:75:27
 cast-len : tie.Need-cast-len
 cast-len c = search needs
 
--- src/names.rt:76:17
 string-behind-requires : tie.Need-string-behind-requires
 string-behind-requires c κs = search needs
 
--- src/names.rt:78:34
 enum-known-n : tie.Need-enum-known-n
 enum-known-n c = search needs
 
--- src/names.rt:70:5
 returns : tie.Need-returns
 returns c = bind-value _ _ _ _ (tells toldPlace (c .before .before .before .place .given .1) (c .before .before .before .before .before .table-place .ensures)) (c .string-behind .ensures ∙ ap (stringBehind (c .before .before .before .before .before .before .before .args .s .now) (c .before .before .before .before .before .before .before .args .self) (c .before .before .before .before .before .before .before .args .offset)) (read-zero 2 (c .before .before .before .before .before .before .before .args .s .now) (c .before .before .before .place .given .0 .0 .at) _ (let h = found false (c .before .before .before .before .before .before .before .args .s .now) (c .before .before .before .before .before .before .before .args .self) 8 (c .before .before .before .before .before .before .before .args .offset) 2 (c .before .before .before .place .given .0 .0) (tells toldPlace (c .before .before .before .place .given .1) (c .before .before .before .before .before .table-place .ensures)) in omega arith) (c .before .u16-or-zero .ensures)))
 
--- src/names.rt:70:5
 returns-2 : tie.Need-returns-2
 returns-2 c = bind-refused _ _ _ (tells toldPlace (c .before .n .given .1) (c .before .before .before .table-place .ensures))
 

@@ -7,27 +7,19 @@ use native.Mathlib.Omega.{arith}
 use borrow.Author.Needs.{needs}
 use Rattle.typelib.proofs.TypeLib.table.Statement.{statement}
 use Rattle.typelib.proofs.TypeLib.table.Tie as tie
-use Rattle.typelib.proofs.TypeLib.table.Reads as reads
-use Rattle.typelib.proofs.TypeLib.table.Lts as lts
-use Rattle.typelib.proofs.TypeLib.segment.Reads as segment-reads
 
--- src/iterators.rt:206:15
 segment-requires : tie.Need-segment-requires
 segment-requires c κs = search needs
 
--- src/iterators.rt:207:32
 enum-known-place : tie.Need-enum-known-place
 enum-known-place c = search needs
 
--- src/iterators.rt:208:40
 enum-told : tie.Need-enum-told
 enum-told c = search needs
 
--- src/iterators.rt:203:5
 returns : tie.Need-returns
 returns c = (ap tableOf (tells toldPlace (c .before .place .given .1) (c .before .before .before .segment .ensures)), let h = small (c .before .before .before .before .args .self) (c .before .before .before .before .args .index) (c .before .place .given .0 .0) (tells toldPlace (c .before .place .given .1) (c .before .before .before .segment .ensures)) in omega arith)
 
--- src/iterators.rt:203:5
 returns-2 : tie.Need-returns-2
 returns-2 c = (ap tableOf (tells toldPlace (c .enum-told .given .1) (c .before .before .segment .ensures)), omega arith)
 

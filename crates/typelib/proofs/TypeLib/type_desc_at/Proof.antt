@@ -9,40 +9,28 @@ use mathlib.Core.Path.{_≡_}
 use borrow.Author.Needs.{needs}
 use Rattle.typelib.proofs.TypeLib.type_desc_at.Statement.{statement}
 use Rattle.typelib.proofs.TypeLib.type_desc_at.Tie as tie
-use Rattle.typelib.proofs.TypeLib.type_desc_at.Reads as reads
-use Rattle.typelib.proofs.TypeLib.type_desc_at.Lts as lts
-use Rattle.typelib.proofs.TypeLib.table_place.Reads as table-place-reads
-use Rattle.util.proofs.u32_or_zero.Reads as u32-or-zero-reads
 
--- src/descriptors.rt:42:15
 table-place-requires : tie.Need-table-place-requires
 table-place-requires c κs = search needs
 
--- src/descriptors.rt:43:32
 enum-known-place : tie.Need-enum-known-place
 enum-known-place c = search needs
 
--- src/descriptors.rt:45:21
 u32-or-zero-requires : tie.Need-u32-or-zero-requires
 u32-or-zero-requires c κs = search needs
 
--- src/descriptors.rt:46:51
 add-u32-or-zero : tie.Need-add-u32-or-zero
 add-u32-or-zero c = let h = found false (c .before .before .before .before .before .before .args .s .now) (c .before .before .before .before .before .before .args .self) 9 (c .before .before .before .before .before .before .args .offset) 8 (c .before .before .place .given .0 .0) (tells toldPlace (c .before .before .place .given .1) (c .before .before .before .before .table-place .ensures)) in omega arith
 
--- src/descriptors.rt:46:21
 u32-or-zero-requires-2 : tie.Need-u32-or-zero-requires-2
 u32-or-zero-requires-2 c κs = search needs
 
--- src/descriptors.rt:49:34
 enum-known-n : tie.Need-enum-known-n
 enum-known-n c = search needs
 
--- src/descriptors.rt:39:5
 returns : tie.Need-returns
 returns c = map-value _ _ _ _ (tells toldPlace (c .before .before .before .place .given .1) (c .before .before .before .before .before .table-place .ensures)) (let h = found false (c .before .before .before .before .before .before .before .args .s .now) (c .before .before .before .before .before .before .before .args .self) 9 (c .before .before .before .before .before .before .before .args .offset) 8 (c .before .before .before .place .given .0 .0) (tells toldPlace (c .before .before .before .place .given .1) (c .before .before .before .before .before .table-place .ensures)) in let e1 = read-zero 4 (c .before .before .before .before .before .before .before .args .s .now) (c .before .before .before .place .given .0 .0 .at) _ (omega arith) (c .before .u32-or-zero .ensures) in let e2 = read-zero 4 (c .before .before .before .before .before .before .before .args .s .now) (c .before .before .before .place .given .0 .0 .at + 4) _ (omega arith) (c .u32-or-zero2 .ensures) in cc (e1, e2))
 
--- src/descriptors.rt:39:5
 returns-2 : tie.Need-returns-2
 returns-2 c = map-refused _ _ _ (tells toldPlace (c .before .n .given .1) (c .before .before .before .table-place .ensures))
 

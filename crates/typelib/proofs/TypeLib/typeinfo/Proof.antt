@@ -5,36 +5,25 @@ use Rattle.records.specs.AnswerLaws.{tells, bind-value, bind-refused}
 use borrow.Author.Needs.{needs}
 use Rattle.typelib.proofs.TypeLib.typeinfo.Statement.{statement}
 use Rattle.typelib.proofs.TypeLib.typeinfo.Tie as tie
-use Rattle.typelib.proofs.TypeLib.typeinfo.Reads as reads
-use Rattle.typelib.proofs.TypeLib.typeinfo.Lts as lts
-use Rattle.typelib.proofs.TypeLib.offset_word.Reads as offset-word-reads
-use Rattle.typelib.proofs.TypeLib.typeinfo_in.Reads as typeinfo-in-reads
 
--- src/typeinfos.rt:66:13
 returns : tie.Need-returns
 returns c = lent-long _ _ (c .if1 .taken)
 
--- src/typeinfos.rt:68:15
 offset-word-requires : tie.Need-offset-word-requires
 offset-word-requires c κs = search needs
 
--- src/typeinfos.rt:69:30
 enum-known-offset : tie.Need-enum-known-offset
 enum-known-offset c = search needs
 
--- src/typeinfos.rt:69:41
 typeinfo-in-requires : tie.Need-typeinfo-in-requires
 typeinfo-in-requires c κs = search needs
 
--- src/typeinfos.rt:70:38
 enum-told : tie.Need-enum-told
 enum-told c = search needs
 
--- src/typeinfos.rt:62:5
 returns-2 : tie.Need-returns-2
 returns-2 c = lent-fits _ _ _ (c .before .before .before .before .before .if1 .left) (bind-value _ _ _ _ (refusing-value 6 _ _ (tells toldU32 (c .before .before .offset .given .1) (c .before .before .before .before .offset-word .ensures))) (c .typeinfo-in .ensures))
 
--- src/typeinfos.rt:62:5
 returns-3 : tie.Need-returns-3
 returns-3 c = lent-fits _ _ _ (c .before .before .before .if1 .left) (bind-refused _ _ _ (refusing-refused 6 _ _ (tells toldU32 (c .enum-told .given .1) (c .before .before .offset-word .ensures))))
 

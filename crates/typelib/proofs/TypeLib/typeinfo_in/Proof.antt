@@ -4,48 +4,34 @@ use Rattle.records.specs.AnswerLaws.{tells, bind-value, bind-refused}
 use borrow.Author.Needs.{needs}
 use Rattle.typelib.proofs.TypeLib.typeinfo_in.Statement.{statement}
 use Rattle.typelib.proofs.TypeLib.typeinfo_in.Tie as tie
-use Rattle.typelib.proofs.TypeLib.typeinfo_in.Reads as reads
-use Rattle.typelib.proofs.TypeLib.typeinfo_in.Lts as lts
-use Rattle.typelib.proofs.TypeLib.segment.Reads as segment-reads
-use Rattle.typelib.proofs.place_in.Reads as place-in-reads
 
--- src/typeinfos.rt:78:13
 returns : tie.Need-returns
 returns c = typeinfo-negative _ _ _ (c .if1 .taken)
 
--- src/typeinfos.rt:80:15
 segment-requires : tie.Need-segment-requires
 segment-requires c κs = search needs
 
--- src/typeinfos.rt:81:32
 enum-known-table : tie.Need-enum-known-table
 enum-known-table c = search needs
 
--- src/typeinfos.rt:81:48
 place-in-requires : tie.Need-place-in-requires
 place-in-requires c κs = search needs
 
--- src/typeinfos.rt:82:36
 enum-known-place : tie.Need-enum-known-place
 enum-known-place c = search needs
 
--- src/typeinfos.rt:86:44
 enum-told : tie.Need-enum-told
 enum-told c = search needs
 
--- src/typeinfos.rt:88:40
 enum-told-2 : tie.Need-enum-told-2
 enum-told-2 c = search needs
 
--- src/typeinfos.rt:74:5
 returns-2 : tie.Need-returns-2
 returns-2 c = typeinfo-in _ _ _ _ (c .before .before .before .before .before .before .before .before .if1 .left) (bind-value _ _ _ _ (refusing-value 7 _ _ (tells toldPlace (c .before .before .before .before .before .table .given .1) (c .before .before .before .before .before .before .before .segment .ensures))) (refusing-value 8 _ _ (tells toldPlace (c .before .place .given .1) (c .before .before .before .place-in .ensures))))
 
--- src/typeinfos.rt:74:5
 returns-3 : tie.Need-returns-3
 returns-3 c = typeinfo-in _ _ _ _ (c .before .before .before .before .before .before .before .if1 .left) (bind-value _ _ _ _ (refusing-value 7 _ _ (tells toldPlace (c .before .before .before .before .table .given .1) (c .before .before .before .before .before .before .segment .ensures))) (refusing-refused 8 _ _ (tells toldPlace (c .enum-told .given .1) (c .before .before .place-in .ensures))))
 
--- src/typeinfos.rt:74:5
 returns-4 : tie.Need-returns-4
 returns-4 c = typeinfo-in _ _ _ _ (c .before .before .before .if1 .left) (bind-refused _ _ _ (refusing-refused 7 _ _ (tells toldPlace (c .enum-told2 .given .1) (c .before .before .segment .ensures))))
 

@@ -8,36 +8,25 @@ use mathlib.Core.Path.{_∙_}
 use borrow.Author.Needs.{needs}
 use Rattle.typelib.proofs.TypeLib.typeinfo_offset.Statement.{statement}
 use Rattle.typelib.proofs.TypeLib.typeinfo_offset.Tie as tie
-use Rattle.typelib.proofs.TypeLib.typeinfo_offset.Reads as reads
-use Rattle.typelib.proofs.TypeLib.typeinfo_offset.Lts as lts
-use Rattle.typelib.proofs.TypeLib.offset_word.Reads as offset-word-reads
-use Rattle.util.proofs.signed32.Reads as signed32-reads
 
--- src/typeinfos.rt:54:13
 returns : tie.Need-returns
 returns c = map-refused (toZ w32) _ _ (lent-long _ _ (c .if1 .taken))
 
--- src/typeinfos.rt:56:15
 offset-word-requires : tie.Need-offset-word-requires
 offset-word-requires c κs = search needs
 
--- src/typeinfos.rt:57:30
 enum-known-x : tie.Need-enum-known-x
 enum-known-x c = search needs
 
--- src/typeinfos.rt:57:71
 signed32-requires : tie.Need-signed32-requires
 signed32-requires c κs = search needs
 
--- src/typeinfos.rt:58:32
 enum-known-n : tie.Need-enum-known-n
 enum-known-n c = search needs
 
--- src/typeinfos.rt:50:5
 returns-2 : tie.Need-returns-2
 returns-2 c = map-value (toZ w32) _ _ _ (lent-fits _ _ _ (c .before .before .before .before .before .if1 .left) (tells toldU32 (c .before .before .x .given .1) (c .before .before .before .before .offset-word .ensures))) (toZ-ofZ w32 _ (record { sfits = c .signed32 .ok }) ∙ c .signed32 .ensures)
 
--- src/typeinfos.rt:50:5
 returns-3 : tie.Need-returns-3
 returns-3 c = map-refused (toZ w32) _ _ (lent-fits _ _ _ (c .before .before .before .before .if1 .left) (tells toldU32 (c .before .n .given .1) (c .before .before .before .offset-word .ensures)))
 

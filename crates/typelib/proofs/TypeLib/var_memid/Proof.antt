@@ -5,41 +5,28 @@ use mathlib.Core.Path.{_∙_, ap}
 use borrow.Author.Needs.{needs}
 use Rattle.typelib.proofs.TypeLib.var_memid.Statement.{statement}
 use Rattle.typelib.proofs.TypeLib.var_memid.Tie as tie
-use Rattle.typelib.proofs.TypeLib.var_memid.Reads as reads
-use Rattle.typelib.proofs.TypeLib.var_memid.Lts as lts
-use Rattle.typelib.proofs.typeinfos.aux_at.Reads as aux-at-reads
-use Rattle.typelib.proofs.typeinfos.declared_counts.Reads as declared-counts-reads
-use Rattle.typelib.proofs.typeinfos.signed.Reads as signed-reads
 
--- src/typeinfos.rt:106:15
 declared-counts-requires : tie.Need-declared-counts-requires
 declared-counts-requires c κs = search needs
 
--- src/typeinfos.rt:107:33
 enum-known-c : tie.Need-enum-known-c
 enum-known-c c = search needs
 
--- src/typeinfos.rt:107:60
 cast-aux-at : tie.Need-cast-aux-at
 cast-aux-at c = search needs
 
--- src/typeinfos.rt:107:46
 aux-at-requires : tie.Need-aux-at-requires
 aux-at-requires c κs = search needs
 
--- src/typeinfos.rt:107:39
 signed-requires : tie.Need-signed-requires
 signed-requires c κs = search needs
 
--- src/typeinfos.rt:108:35
 enum-known-n : tie.Need-enum-known-n
 enum-known-n c = search needs
 
--- src/typeinfos.rt:103:5
 returns : tie.Need-returns
 returns c = c .signed .ensures ∙ ap signed32 (bind-value _ _ _ _ (tells toldCounts (c .before .before .before .before .c .given .1) (c .before .before .before .before .before .before .declared-counts .ensures)) (c .before .aux-at .ensures))
 
--- src/typeinfos.rt:103:5
 returns-2 : tie.Need-returns-2
 returns-2 c = ap signed32 (bind-refused _ _ _ (tells toldCounts (c .before .n .given .1) (c .before .before .before .declared-counts .ensures)))
 

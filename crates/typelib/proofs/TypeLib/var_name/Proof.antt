@@ -12,36 +12,25 @@ use mathlib.Core.Path.{_∙_, ap, sym, refl, _≡_}
 use borrow.Author.Needs.{needs}
 use Rattle.typelib.proofs.TypeLib.var_name.Statement.{statement}
 use Rattle.typelib.proofs.TypeLib.var_name.Tie as tie
-use Rattle.typelib.proofs.TypeLib.var_name.Reads as reads
-use Rattle.typelib.proofs.TypeLib.var_name.Lts as lts
-use Rattle.typelib.proofs.TypeLib.name.Reads as name-reads
-use Rattle.typelib.proofs.TypeLib.var_name_offset.Reads as var-name-offset-reads
 
--- src/typeinfos.rt:150:13
 returns : tie.Need-returns
 returns c = bind-refused _ _ _ (map-refused (toZ w32) _ _ (long-member _ (c .before .before .args .s .now) (c .before .before .args .ti) (c .before .before .args .index) (c .if1 .taken)))
 
--- src/typeinfos.rt:152:40
 var-name-offset-requires : tie.Need-var-name-offset-requires
 var-name-offset-requires c κs = search needs
 
--- src/typeinfos.rt:152:30
 enum-known-offset : tie.Need-enum-known-offset
 enum-known-offset c = search needs
 
--- src/typeinfos.rt:153:13
 enum-told : tie.Need-enum-told
 enum-told c = search needs
 
--- src/typeinfos.rt:153:13
 returns-2 : tie.Need-returns-2
 returns-2 c = sym (ap refused (nine-map (toZ w32) _ (nine-member _ (c .before .before .before .before .before .args .s .now) (c .before .before .before .before .before .args .ti) (c .before .before .before .before .before .args .index) (c .before .before .before .if1 .left)) _ (tells toldI32 (c .enum-told .given .1) (c .before .before .var-name-offset .ensures)))) ∙ bind-refused _ _ _ (tells toldI32 (c .enum-told .given .1) (c .before .before .var-name-offset .ensures))
 
--- src/typeinfos.rt:155:9
 name-requires : tie.Need-name-requires
 name-requires c κs = search needs
 
--- src/typeinfos.rt:146:5
 returns-3 : tie.Need-returns-3
 returns-3 c = bind-value _ _ _ _ (tells toldI32 (c .before .before .offset .given .1) (c .before .before .before .before .var-name-offset .ensures)) (c .name .ensures ∙ ap (λ (z : ℤ). nameText (c .before .before .before .before .before .before .before .args .s .now) (c .before .before .before .before .before .before .before .args .self) (ofZ w32 z)) (toZ-ofZ w32 (c .before .before .offset .given .0 .0) (record { sfits = c .before .known-told .given .0 .1 })))
 

@@ -4,35 +4,25 @@ use Rattle.records.specs.AnswerLaws.{tells}
 use borrow.Author.Needs.{needs}
 use Rattle.typelib.proofs.iterators.block_with.Statement.{statement}
 use Rattle.typelib.proofs.iterators.block_with.Tie as tie
-use Rattle.typelib.proofs.iterators.block_with.Reads as reads
-use Rattle.typelib.proofs.iterators.block_with.Lts as lts
-use Rattle.util.proofs.read_u32_le.Reads as read-u32-le-reads
 
--- src/iterators.rt:465:9
 returns : tie.Need-returns
 returns c = block-negative _ _ _ (c .if1 .taken)
 
--- src/iterators.rt:468:9
 returns-2 : tie.Need-returns-2
 returns-2 c = block-empty _ _ _ (c .before .if1 .left) (c .if2 .taken)
 
--- src/iterators.rt:470:11
 read-u32-le-requires : tie.Need-read-u32-le-requires
 read-u32-le-requires c κs = search needs
 
--- src/iterators.rt:471:30
 enum-known-size : tie.Need-enum-known-size
 enum-known-size c = search needs
 
--- src/iterators.rt:472:35
 enum-told : tie.Need-enum-told
 enum-told c = search needs
 
--- src/iterators.rt:461:1
 returns-3 : tie.Need-returns-3
 returns-3 c = block-there _ _ _ _ (c .before .before .before .before .before .if1 .left) (c .before .before .before .before .if2 .left) (tells toldU32 (c .before .size .given .1) (c .before .before .before .read-u32-le .ensures))
 
--- src/iterators.rt:461:1
 returns-4 : tie.Need-returns-4
 returns-4 c = block-there _ _ _ _ (c .before .before .before .before .if1 .left) (c .before .before .before .if2 .left) (tells toldU32 (c .enum-told .given .1) (c .before .before .read-u32-le .ensures))
 

@@ -4,34 +4,25 @@ use native.Mathlib.Omega.{arith}
 use borrow.Author.Needs.{needs}
 use Rattle.typelib.proofs.iterators.fixed_at.Statement.{statement}
 use Rattle.typelib.proofs.iterators.fixed_at.Tie as tie
-use Rattle.typelib.proofs.iterators.fixed_at.Reads as reads
-use Rattle.typelib.proofs.iterators.fixed_at.Lts as lts
 
--- src/iterators.rt:339:9
 returns : tie.Need-returns
 returns c = lent-long _ _ (c .if1 .taken)
 
--- src/iterators.rt:342:9
 returns-2 : tie.Need-returns-2
 returns-2 c = lent-fits _ _ _ (c .before .if1 .left) (fixed-past (c .before .before .args .s .now) (c .before .before .args .pos) (c .before .before .args .end) (c .before .before .args .size) (omega arith))
 
--- src/iterators.rt:345:9
 returns-3 : tie.Need-returns-3
 returns-3 c = lent-fits _ _ _ (c .before .before .if1 .left) (fixed-past (c .before .before .before .args .s .now) (c .before .before .before .args .pos) (c .before .before .before .args .end) (c .before .before .before .args .size) (omega arith))
 
--- src/iterators.rt:348:9
 returns-4 : tie.Need-returns-4
 returns-4 c = lent-fits _ _ _ (c .before .before .before .if1 .left) (fixed-cut (c .before .before .before .before .args .s .now) (c .before .before .before .before .args .pos) (c .before .before .before .before .args .end) (c .before .before .before .before .args .size) (omega arith) (omega arith))
 
--- src/iterators.rt:350:8
 sub-if5 : tie.Need-sub-if5
 sub-if5 c = search needs
 
--- src/iterators.rt:351:9
 returns-5 : tie.Need-returns-5
 returns-5 c = lent-fits _ _ _ (c .before .before .before .before .if1 .left) (fixed-cut (c .before .before .before .before .before .args .s .now) (c .before .before .before .before .before .args .pos) (c .before .before .before .before .before .args .end) (c .before .before .before .before .before .args .size) (omega arith) (omega arith))
 
--- src/iterators.rt:335:1
 returns-6 : tie.Need-returns-6
 returns-6 c = lent-fits _ _ _ (c .before .before .before .before .if1 .left) (fixed-there (c .before .before .before .before .before .args .s .now) (c .before .before .before .before .before .args .pos) (c .before .before .before .before .before .args .end) (c .before .before .before .before .before .args .size) (omega arith) (omega arith))
 

@@ -5,51 +5,37 @@ use mathlib.Core.Path.{ap}
 use borrow.Author.Needs.{needs}
 use Rattle.typelib.proofs.iterators.func_cursor.Statement.{statement}
 use Rattle.typelib.proofs.iterators.func_cursor.Tie as tie
-use Rattle.typelib.proofs.iterators.func_cursor.Reads as reads
-use Rattle.typelib.proofs.iterators.func_cursor.Lts as lts
-use Rattle.typelib.proofs.iterators.block_with.Reads as block-with-reads
 
--- src/iterators.rt:479:11
 block-with-requires : tie.Need-block-with-requires
 block-with-requires c κs = search needs
 
--- src/iterators.rt:480:21
 enum-known-at : tie.Need-enum-known-at
 enum-known-at c = search needs
 
--- src/iterators.rt:481:18
 cast-t8 : tie.Need-cast-t8
 cast-t8 c = search needs
 
--- src/iterators.rt:481:18
 add-t9 : tie.Need-add-t9
 add-t9 c = search needs
 
--- src/iterators.rt:482:18
 cast-t10 : tie.Need-cast-t10
 cast-t10 c = search needs
 
--- src/iterators.rt:482:18
 add-t11 : tie.Need-add-t11
 add-t11 c = search needs
 
--- src/iterators.rt:482:36
 cast-t12 : tie.Need-cast-t12
 cast-t12 c = search needs
 
--- src/iterators.rt:482:18
 add-t13 : tie.Need-add-t13
 add-t13 c = search needs
 
--- src/iterators.rt:485:27
 enum-told : tie.Need-enum-told
 enum-told c = search needs
 
--- src/iterators.rt:476:1
 returns : tie.Need-returns
 returns c = ap (funcCursor (c .before .before .before .before .before .args .count)) (tells toldBlock (c .before .at .given .1) (c .before .before .before .block-with .ensures))
 
--- src/iterators.rt:476:1
 returns-2 : tie.Need-returns-2
 returns-2 c = ap (funcCursor (c .before .before .before .before .args .count)) (tells toldBlock (c .enum-told .given .1) (c .before .before .block-with .ensures))
 

@@ -4,23 +4,16 @@ use mathlib.Core.Path.{_∙_}
 use borrow.Author.Needs.{needs}
 use Rattle.typelib.proofs.iterators.param_at.Statement.{statement}
 use Rattle.typelib.proofs.iterators.param_at.Tie as tie
-use Rattle.typelib.proofs.iterators.param_at.Reads as reads
-use Rattle.typelib.proofs.iterators.param_at.Lts as lts
-use Rattle.typelib.proofs.iterators.fixed_at.Reads as fixed-at-reads
 
--- src/iterators.rt:360:9
 returns : tie.Need-returns
 returns c = lent-long _ _ (c .if1 .taken)
 
--- src/iterators.rt:363:9
 returns-2 : tie.Need-returns-2
 returns-2 c = lent-fits _ _ _ (c .before .before .if1 .left) (param-none (c .before .before .before .before .args .s .now) (c .before .before .before .before .args .cursor) (c .if2 .taken))
 
--- src/iterators.rt:365:5
 fixed-at-requires : tie.Need-fixed-at-requires
 fixed-at-requires c κs = search needs
 
--- src/iterators.rt:356:1
 returns-3 : tie.Need-returns-3
 returns-3 c = c .fixed-at .ensures ∙ param-some (c .before .before .before .before .before .args .s .now) (c .before .before .before .before .before .args .cursor) (c .before .if2 .left)
 

@@ -9,60 +9,43 @@ use native.Mathlib.Omega.{arith}
 use borrow.Author.Needs.{needs}
 use Rattle.typelib.proofs.iterators.record_at.Statement.{statement}
 use Rattle.typelib.proofs.iterators.record_at.Tie as tie
-use Rattle.typelib.proofs.iterators.record_at.Reads as reads
-use Rattle.typelib.proofs.iterators.record_at.Lts as lts
-use Rattle.util.proofs.bits.Reads as bits-reads
-use Rattle.util.proofs.read_u32_le.Reads as read-u32-le-reads
 
--- src/iterators.rt:313:9
 returns : tie.Need-returns
 returns c = lent-long _ _ (c .if1 .taken)
 
--- src/iterators.rt:316:9
 returns-2 : tie.Need-returns-2
 returns-2 c = lent-fits _ _ _ (c .before .if1 .left) (record-none (c .before .before .before .args .s .now) (c .before .before .before .args .pos) (c .before .before .before .args .end) (c .before .before .before .args .remaining) (c .before .before .before .args .least) (c .if2 .taken))
 
--- src/iterators.rt:319:9
 returns-3 : tie.Need-returns-3
 returns-3 c = lent-fits _ _ _ (c .before .before .if1 .left) (record-past (c .before .before .before .before .args .s .now) (c .before .before .before .before .args .pos) (c .before .before .before .before .args .end) (c .before .before .before .before .args .remaining) (c .before .before .before .before .args .least) (c .before .if2 .left) (c .if3 .taken))
 
--- src/iterators.rt:321:38
 read-u32-le-requires : tie.Need-read-u32-le-requires
 read-u32-le-requires c κs = search needs
 
--- src/iterators.rt:321:30
 enum-known-info : tie.Need-enum-known-info
 enum-known-info c = search needs
 
--- src/iterators.rt:322:9
 enum-told : tie.Need-enum-told
 enum-told c = search needs
 
--- src/iterators.rt:322:9
 returns-4 : tie.Need-returns-4
 returns-4 c = lent-fits _ _ _ (c .before .before .before .before .before .if1 .left) (record-cut (c .before .before .before .before .before .before .before .args .s .now) (c .before .before .before .before .before .before .before .args .pos) (c .before .before .before .before .before .before .before .args .end) (c .before .before .before .before .before .before .before .args .remaining) (c .before .before .before .before .before .before .before .args .least) (c .before .before .before .before .if2 .left) (c .before .before .before .if3 .left) (none-read 4 (c .before .before .before .before .before .before .before .args .s .now) (c .before .before .before .before .before .before .before .args .pos) (tells toldU32 (c .enum-told .given .1) (c .before .before .read-u32-le .ensures))))
 
--- src/iterators.rt:324:16
 bits-requires : tie.Need-bits-requires
 bits-requires c κs = search needs
 
--- src/iterators.rt:324:16
 cast-size : tie.Need-cast-size
 cast-size c = search needs
 
--- src/iterators.rt:326:9
 returns-5 : tie.Need-returns-5
 returns-5 c = lent-fits _ _ _ (c .before .before .before .before .before .before .before .before .if1 .left) (record-small (c .before .before .before .before .before .before .before .before .before .before .args .s .now) (c .before .before .before .before .before .before .before .before .before .before .args .pos) (c .before .before .before .before .before .before .before .before .before .before .args .end) (c .before .before .before .before .before .before .before .before .before .before .args .remaining) (c .before .before .before .before .before .before .before .before .before .before .args .least) (c .before .before .before .before .before .before .before .if2 .left) (c .before .before .before .before .before .before .if3 .left) (some-read 4 (c .before .before .before .before .before .before .before .before .before .before .args .s .now) (c .before .before .before .before .before .before .before .before .before .before .args .pos) _ (tells toldU32 (c .before .before .before .info .given .1) (c .before .before .before .before .before .read-u32-le .ensures)) .inside) (let z = size-is (c .before .before .before .before .before .before .before .before .before .before .args .s .now) (c .before .before .before .before .before .before .before .before .before .before .args .pos) _ _ (some-read 4 (c .before .before .before .before .before .before .before .before .before .before .args .s .now) (c .before .before .before .before .before .before .before .before .before .before .args .pos) _ (tells toldU32 (c .before .before .before .info .given .1) (c .before .before .before .before .before .read-u32-le .ensures)) .is) (c .before .bits .ensures) in omega arith))
 
--- src/iterators.rt:328:8
-sub-if5 : tie.Need-sub-if5
-sub-if5 c = let h = some-read 4 (c .before .before .before .before .before .before .before .before .before .before .args .s .now) (c .before .before .before .before .before .before .before .before .before .before .args .pos) _ (tells toldU32 (c .before .before .before .info .given .1) (c .before .before .before .before .before .read-u32-le .ensures)) .inside in omega arith
+sub-room : tie.Need-sub-room
+sub-room c = let h = some-read 4 (c .before .before .before .before .before .before .before .before .before .before .args .s .now) (c .before .before .before .before .before .before .before .before .before .before .args .pos) _ (tells toldU32 (c .before .before .before .info .given .1) (c .before .before .before .before .before .read-u32-le .ensures)) .inside in omega arith
 
--- src/iterators.rt:329:9
 returns-6 : tie.Need-returns-6
 returns-6 c = lent-fits _ _ _ (c .before .before .before .before .before .before .before .before .before .if1 .left) (record-long (c .before .before .before .before .before .before .before .before .before .before .before .args .s .now) (c .before .before .before .before .before .before .before .before .before .before .before .args .pos) (c .before .before .before .before .before .before .before .before .before .before .before .args .end) (c .before .before .before .before .before .before .before .before .before .before .before .args .remaining) (c .before .before .before .before .before .before .before .before .before .before .before .args .least) (c .before .before .before .before .before .before .before .before .if2 .left) (c .before .before .before .before .before .before .before .if3 .left) (some-read 4 (c .before .before .before .before .before .before .before .before .before .before .before .args .s .now) (c .before .before .before .before .before .before .before .before .before .before .before .args .pos) _ (tells toldU32 (c .before .before .before .before .info .given .1) (c .before .before .before .before .before .before .read-u32-le .ensures)) .inside) (let z = size-is (c .before .before .before .before .before .before .before .before .before .before .before .args .s .now) (c .before .before .before .before .before .before .before .before .before .before .before .args .pos) _ _ (some-read 4 (c .before .before .before .before .before .before .before .before .before .before .before .args .s .now) (c .before .before .before .before .before .before .before .before .before .before .before .args .pos) _ (tells toldU32 (c .before .before .before .before .info .given .1) (c .before .before .before .before .before .before .read-u32-le .ensures)) .is) (c .before .before .bits .ensures) in omega arith) (let z = size-is (c .before .before .before .before .before .before .before .before .before .before .before .args .s .now) (c .before .before .before .before .before .before .before .before .before .before .before .args .pos) _ _ (some-read 4 (c .before .before .before .before .before .before .before .before .before .before .before .args .s .now) (c .before .before .before .before .before .before .before .before .before .before .before .args .pos) _ (tells toldU32 (c .before .before .before .before .info .given .1) (c .before .before .before .before .before .before .read-u32-le .ensures)) .is) (c .before .before .bits .ensures) in let h = some-read 4 (c .before .before .before .before .before .before .before .before .before .before .before .args .s .now) (c .before .before .before .before .before .before .before .before .before .before .before .args .pos) _ (tells toldU32 (c .before .before .before .before .info .given .1) (c .before .before .before .before .before .before .read-u32-le .ensures)) .inside in omega arith))
 
--- src/iterators.rt:309:1
 returns-7 : tie.Need-returns-7
 returns-7 c = lent-fits _ _ _ (c .before .before .before .before .before .before .before .before .before .if1 .left) (ap value (size-is (c .before .before .before .before .before .before .before .before .before .before .before .args .s .now) (c .before .before .before .before .before .before .before .before .before .before .before .args .pos) _ _ (some-read 4 (c .before .before .before .before .before .before .before .before .before .before .before .args .s .now) (c .before .before .before .before .before .before .before .before .before .before .before .args .pos) _ (tells toldU32 (c .before .before .before .before .info .given .1) (c .before .before .before .before .before .before .read-u32-le .ensures)) .is) (c .before .before .bits .ensures)) ∙ record-there (c .before .before .before .before .before .before .before .before .before .before .before .args .s .now) (c .before .before .before .before .before .before .before .before .before .before .before .args .pos) (c .before .before .before .before .before .before .before .before .before .before .before .args .end) (c .before .before .before .before .before .before .before .before .before .before .before .args .remaining) (c .before .before .before .before .before .before .before .before .before .before .before .args .least) (c .before .before .before .before .before .before .before .before .if2 .left) (c .before .before .before .before .before .before .before .if3 .left) (some-read 4 (c .before .before .before .before .before .before .before .before .before .before .before .args .s .now) (c .before .before .before .before .before .before .before .before .before .before .before .args .pos) _ (tells toldU32 (c .before .before .before .before .info .given .1) (c .before .before .before .before .before .before .read-u32-le .ensures)) .inside) (let z = size-is (c .before .before .before .before .before .before .before .before .before .before .before .args .s .now) (c .before .before .before .before .before .before .before .before .before .before .before .args .pos) _ _ (some-read 4 (c .before .before .before .before .before .before .before .before .before .before .before .args .s .now) (c .before .before .before .before .before .before .before .before .before .before .before .args .pos) _ (tells toldU32 (c .before .before .before .before .info .given .1) (c .before .before .before .before .before .before .read-u32-le .ensures)) .is) (c .before .before .bits .ensures) in omega arith) (let z = size-is (c .before .before .before .before .before .before .before .before .before .before .before .args .s .now) (c .before .before .before .before .before .before .before .before .before .before .before .args .pos) _ _ (some-read 4 (c .before .before .before .before .before .before .before .before .before .before .before .args .s .now) (c .before .before .before .before .before .before .before .before .before .before .before .args .pos) _ (tells toldU32 (c .before .before .before .before .info .given .1) (c .before .before .before .before .before .before .read-u32-le .ensures)) .is) (c .before .before .bits .ensures) in let h = some-read 4 (c .before .before .before .before .before .before .before .before .before .before .before .args .s .now) (c .before .before .before .before .before .before .before .before .before .before .before .args .pos) _ (tells toldU32 (c .before .before .before .before .info .given .1) (c .before .before .before .before .before .before .read-u32-le .ensures)) .inside in omega arith))
 
@@ -80,6 +63,6 @@ record-at-spec =
     bits-requires
     cast-size
     returns-5
-    sub-if5
+    sub-room
     returns-6
     returns-7)

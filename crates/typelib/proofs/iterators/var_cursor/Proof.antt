@@ -5,57 +5,40 @@ use mathlib.Core.Path.{_∙_, ap}
 use borrow.Author.Needs.{needs}
 use Rattle.typelib.proofs.iterators.var_cursor.Statement.{statement}
 use Rattle.typelib.proofs.iterators.var_cursor.Tie as tie
-use Rattle.typelib.proofs.iterators.var_cursor.Reads as reads
-use Rattle.typelib.proofs.iterators.var_cursor.Lts as lts
-use Rattle.typelib.proofs.iterators.block_with.Reads as block-with-reads
-use Rattle.typelib.proofs.iterators.skip_functions.Reads as skip-functions-reads
-use Rattle.typelib.proofs.iterators.vars_from.Reads as vars-from-reads
 
--- src/iterators.rt:496:11
 block-with-requires : tie.Need-block-with-requires
 block-with-requires c κs = search needs
 
--- src/iterators.rt:497:21
 enum-known-at : tie.Need-enum-known-at
 enum-known-at c = search needs
 
--- src/iterators.rt:498:25
 cast-first : tie.Need-cast-first
 cast-first c = search needs
 
--- src/iterators.rt:498:25
 add-first : tie.Need-add-first
 add-first c = search needs
 
--- src/iterators.rt:500:42
 cast-skip-functions : tie.Need-cast-skip-functions
 cast-skip-functions c = search needs
 
--- src/iterators.rt:500:17
 skip-functions-requires : tie.Need-skip-functions-requires
 skip-functions-requires c κs = search needs
 
--- src/iterators.rt:501:25
 cast-vars-from : tie.Need-cast-vars-from
 cast-vars-from c = search needs
 
--- src/iterators.rt:501:17
 add-vars-from : tie.Need-add-vars-from
 add-vars-from c = search needs
 
--- src/iterators.rt:499:13
 vars-from-requires : tie.Need-vars-from-requires
 vars-from-requires c κs = search needs
 
--- src/iterators.rt:505:27
 enum-told : tie.Need-enum-told
 enum-told c = search needs
 
--- src/iterators.rt:493:1
 returns : tie.Need-returns
 returns c = c .vars-from .ensures ∙ ap (varsFrom _ _) (c .before .skip-functions .ensures) ∙ ap (varCursor (c .before .before .before .before .before .before .before .before .args .s .now) (c .before .before .before .before .before .before .before .before .args .c)) (tells toldBlock (c .before .before .before .before .at .given .1) (c .before .before .before .before .before .before .block-with .ensures))
 
--- src/iterators.rt:493:1
 returns-2 : tie.Need-returns-2
 returns-2 c = ap (varCursor (c .before .before .before .before .args .s .now) (c .before .before .before .before .args .c)) (tells toldBlock (c .enum-told .given .1) (c .before .before .block-with .ensures))
 

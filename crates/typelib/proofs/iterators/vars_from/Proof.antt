@@ -4,22 +4,16 @@ use mathlib.Core.Path.{ap, sym}
 use borrow.Author.Needs.{needs}
 use Rattle.typelib.proofs.iterators.vars_from.Statement.{statement}
 use Rattle.typelib.proofs.iterators.vars_from.Tie as tie
-use Rattle.typelib.proofs.iterators.vars_from.Reads as reads
-use Rattle.typelib.proofs.iterators.vars_from.Lts as lts
 
--- src/iterators.rt:517:21
 enum-known-start : tie.Need-enum-known-start
 enum-known-start c = search needs
 
--- src/iterators.rt:522:29
 enum-told : tie.Need-enum-told
 enum-told c = search needs
 
--- src/iterators.rt:513:1
 returns : tie.Need-returns
 returns c = ap (varsFrom (c .before .before .before .args .end) (c .before .before .before .args .count)) (sym (ap toldSkip (c .before .start .given .1)))
 
--- src/iterators.rt:513:1
 returns-2 : tie.Need-returns-2
 returns-2 c = ap (varsFrom (c .before .before .args .end) (c .before .before .args .count)) (sym (ap toldSkip (c .enum-told .given .1)))
 

@@ -3,32 +3,22 @@ use Rattle.records.specs.AnswerLaws.{tells, bind-value, bind-refused}
 use borrow.Author.Needs.{needs}
 use Rattle.typelib.proofs.typeinfos.aux_at.Statement.{statement}
 use Rattle.typelib.proofs.typeinfos.aux_at.Tie as tie
-use Rattle.typelib.proofs.typeinfos.aux_at.Reads as reads
-use Rattle.typelib.proofs.typeinfos.aux_at.Lts as lts
-use Rattle.records.proofs.field.field_u32.Reads as field-u32-reads
-use Rattle.typelib.proofs.typeinfos.aux_in.Reads as aux-in-reads
 
--- src/typeinfos.rt:198:11
 field-u32-requires : tie.Need-field-u32-requires
 field-u32-requires c κs = search needs
 
--- src/typeinfos.rt:199:26
 enum-known-memoffset : tie.Need-enum-known-memoffset
 enum-known-memoffset c = search needs
 
--- src/typeinfos.rt:199:40
 aux-in-requires : tie.Need-aux-in-requires
 aux-in-requires c κs = search needs
 
--- src/typeinfos.rt:200:28
 enum-known-n : tie.Need-enum-known-n
 enum-known-n c = search needs
 
--- src/typeinfos.rt:195:1
 returns : tie.Need-returns
 returns c = bind-value _ _ _ _ (tells toldU32 (c .before .before .memoffset .given .1) (c .before .before .before .before .field-u32 .ensures)) (c .aux-in .ensures)
 
--- src/typeinfos.rt:195:1
 returns-2 : tie.Need-returns-2
 returns-2 c = bind-refused _ _ _ (tells toldU32 (c .before .n .given .1) (c .before .before .before .field-u32 .ensures))
 

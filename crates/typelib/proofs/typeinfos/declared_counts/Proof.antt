@@ -4,46 +4,31 @@ use mathlib.Core.Path.{refl}
 use borrow.Author.Needs.{needs}
 use Rattle.typelib.proofs.typeinfos.declared_counts.Statement.{statement}
 use Rattle.typelib.proofs.typeinfos.declared_counts.Tie as tie
-use Rattle.typelib.proofs.typeinfos.declared_counts.Reads as reads
-use Rattle.typelib.proofs.typeinfos.declared_counts.Lts as lts
-use Rattle.records.proofs.typeinfo.TypeInfoEntry.func_count.Reads as func-count-reads
-use Rattle.records.proofs.typeinfo.TypeInfoEntry.var_count.Reads as var-count-reads
 
--- src/typeinfos.rt:173:11
 func-count-requires : tie.Need-func-count-requires
 func-count-requires c κs = search needs
 
--- src/typeinfos.rt:174:26
 enum-known-funcs : tie.Need-enum-known-funcs
 enum-known-funcs c = search needs
 
--- src/typeinfos.rt:174:42
 var-count-requires : tie.Need-var-count-requires
 var-count-requires c κs = search needs
 
--- src/typeinfos.rt:175:30
 enum-known-vars : tie.Need-enum-known-vars
 enum-known-vars c = search needs
 
--- src/typeinfos.rt:176:24
--- src/typeinfos.rt:177:23
--- src/typeinfos.rt:179:32
 enum-known-n : tie.Need-enum-known-n
 enum-known-n c = search needs
 
--- src/typeinfos.rt:181:28
 enum-known-n-2 : tie.Need-enum-known-n-2
 enum-known-n-2 c = search needs
 
--- src/typeinfos.rt:170:1
 returns : tie.Need-returns
 returns c = bind-value _ _ _ _ (tells toldU16 (c .before .before .before .before .before .funcs .given .1) (c .before .before .before .before .before .before .before .func-count .ensures)) (map-value _ _ _ _ (tells toldU16 (c .before .vars .given .1) (c .before .before .before .var-count .ensures)) refl)
 
--- src/typeinfos.rt:170:1
 returns-2 : tie.Need-returns-2
 returns-2 c = bind-value _ _ _ _ (tells toldU16 (c .before .before .before .before .before .funcs .given .1) (c .before .before .before .before .before .before .before .func-count .ensures)) (map-refused _ _ _ (tells toldU16 (c .before .n .given .1) (c .before .before .before .var-count .ensures)))
 
--- src/typeinfos.rt:170:1
 returns-3 : tie.Need-returns-3
 returns-3 c = bind-refused _ _ _ (tells toldU16 (c .before .n2 .given .1) (c .before .before .before .func-count .ensures))
 

@@ -7,27 +7,19 @@ use mathlib.Core.Path.{_∙_, sym, ap}
 use borrow.Author.Needs.{needs}
 use Rattle.typelib.proofs.typeinfos.signed.Statement.{statement}
 use Rattle.typelib.proofs.typeinfos.signed.Tie as tie
-use Rattle.typelib.proofs.typeinfos.signed.Reads as reads
-use Rattle.typelib.proofs.typeinfos.signed.Lts as lts
-use Rattle.util.proofs.signed32.Reads as signed32-reads
 
--- src/typeinfos.rt:189:26
 enum-known-a : tie.Need-enum-known-a
 enum-known-a c = search needs
 
--- src/typeinfos.rt:189:49
 signed32-requires : tie.Need-signed32-requires
 signed32-requires c κs = search needs
 
--- src/typeinfos.rt:190:28
 enum-known-a-2 : tie.Need-enum-known-a-2
 enum-known-a-2 c = search needs
 
--- src/typeinfos.rt:185:1
 returns : tie.Need-returns
 returns c = map-value (toZ w32) _ _ _ (sym (ap toldU32 (c .before .before .a .given .1))) (toZ-ofZ w32 _ (record { sfits = c .signed32 .ok }) ∙ c .signed32 .ensures)
 
--- src/typeinfos.rt:185:1
 returns-2 : tie.Need-returns-2
 returns-2 c = map-refused (toZ w32) _ _ (sym (ap toldU32 (c .before .a2 .given .1)))
 

@@ -7,35 +7,25 @@ use native.Mathlib.Omega.{arith}
 use borrow.Author.Needs.{needs}
 use Rattle.typelib.proofs.iterators.FuncCursor.step.Statement.{statement}
 use Rattle.typelib.proofs.iterators.FuncCursor.step.Tie as tie
-use Rattle.typelib.proofs.iterators.FuncCursor.step.Reads as reads
-use Rattle.typelib.proofs.iterators.FuncCursor.step.Lts as lts
-use Rattle.typelib.proofs.iterators.record_at.Reads as record-at-reads
 
--- src/iterators.rt:138:15
 record-at-requires : tie.Need-record-at-requires
 record-at-requires c κs = search needs
 
--- src/iterators.rt:139:32
 enum-known-len : tie.Need-enum-known-len
 enum-known-len c = search needs
 
--- src/iterators.rt:142:26
 add-t9 : tie.Need-add-t9
 add-t9 c = let h = recorded (c .before .before .before .before .before .args .s .now) (c .before .before .before .before .before .args .self .pos) (c .before .before .before .before .before .args .self .end) (c .before .before .before .before .before .args .self .remaining) 24 _ (tells toldUsize (c .before .len .given .1) (c .before .before .before .record-at .ensures)) in omega arith
 
--- src/iterators.rt:144:32
 sub-t10 : tie.Need-sub-t10
 sub-t10 c = let h = recorded (c .before .before .before .before .before .before .args .s .now) (c .before .before .before .before .before .before .args .self .pos) (c .before .before .before .before .before .before .args .self .end) (c .before .before .before .before .before .before .args .self .remaining) 24 _ (tells toldUsize (c .before .before .len .given .1) (c .before .before .before .before .record-at .ensures)) in omega arith
 
--- src/iterators.rt:147:34
 enum-known-n : tie.Need-enum-known-n
 enum-known-n c = search needs
 
--- src/iterators.rt:134:5
 returns : tie.Need-returns
 returns c = ap (funcStepFrom (c .before .before .before .before .before .before .args .self)) (tells toldUsize (c .before .before .len .given .1) (c .before .before .before .before .record-at .ensures))
 
--- src/iterators.rt:134:5
 returns-2 : tie.Need-returns-2
 returns-2 c = ap (funcStepFrom (c .before .before .before .before .before .args .self)) (tells toldUsize (c .before .n .given .1) (c .before .before .before .record-at .ensures))
 

@@ -7,31 +7,22 @@ use native.Mathlib.Omega.{arith}
 use borrow.Author.Needs.{needs}
 use Rattle.typelib.proofs.iterators.ImpFileCursor.step.Statement.{statement}
 use Rattle.typelib.proofs.iterators.ImpFileCursor.step.Tie as tie
-use Rattle.typelib.proofs.iterators.ImpFileCursor.step.Reads as reads
-use Rattle.typelib.proofs.iterators.ImpFileCursor.step.Lts as lts
-use Rattle.typelib.proofs.iterators.imp_file_entry.Reads as imp-file-entry-reads
 
--- src/iterators.rt:261:15
 imp-file-entry-requires : tie.Need-imp-file-entry-requires
 imp-file-entry-requires c κs = search needs
 
--- src/iterators.rt:262:32
 enum-known-place : tie.Need-enum-known-place
 enum-known-place c = search needs
 
--- src/iterators.rt:268:26
 add-t9 : tie.Need-add-t9
 add-t9 c = let h = entry-inside (c .before .before .before .before .before .before .args .s .now) (c .before .before .before .before .before .before .args .self .pos) (c .before .before .before .before .before .before .args .self .end) _ (tells toldPlace (c .before .before .place .given .1) (c .before .before .before .before .imp-file-entry .ensures)) in omega arith
 
--- src/iterators.rt:272:34
 enum-known-n : tie.Need-enum-known-n
 enum-known-n c = search needs
 
--- src/iterators.rt:257:5
 returns : tie.Need-returns
 returns c = ap (impFileStepFrom (c .before .before .before .before .before .before .args .self)) (tells toldPlace (c .before .before .place .given .1) (c .before .before .before .before .imp-file-entry .ensures))
 
--- src/iterators.rt:257:5
 returns-2 : tie.Need-returns-2
 returns-2 c = ap (impFileStepFrom (c .before .before .before .before .before .args .self)) (tells toldPlace (c .before .n .given .1) (c .before .before .before .imp-file-entry .ensures))
 

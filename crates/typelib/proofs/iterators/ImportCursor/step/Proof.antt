@@ -7,31 +7,22 @@ use native.Mathlib.Omega.{arith}
 use borrow.Author.Needs.{needs}
 use Rattle.typelib.proofs.iterators.ImportCursor.step.Statement.{statement}
 use Rattle.typelib.proofs.iterators.ImportCursor.step.Tie as tie
-use Rattle.typelib.proofs.iterators.ImportCursor.step.Reads as reads
-use Rattle.typelib.proofs.iterators.ImportCursor.step.Lts as lts
-use Rattle.typelib.proofs.iterators.fixed_at.Reads as fixed-at-reads
 
--- src/iterators.rt:211:15
 fixed-at-requires : tie.Need-fixed-at-requires
 fixed-at-requires c κs = search needs
 
--- src/iterators.rt:212:32
 enum-known-place : tie.Need-enum-known-place
 enum-known-place c = search needs
 
--- src/iterators.rt:218:26
 add-t9 : tie.Need-add-t9
 add-t9 c = let h = fixed (c .before .before .before .before .before .args .s .now) (c .before .before .before .before .before .args .self .pos) (c .before .before .before .before .before .args .self .end) 12 _ (tells toldPlace (c .before .place .given .1) (c .before .before .before .fixed-at .ensures)) in omega arith
 
--- src/iterators.rt:222:34
 enum-known-n : tie.Need-enum-known-n
 enum-known-n c = search needs
 
--- src/iterators.rt:207:5
 returns : tie.Need-returns
 returns c = ap (importStepFrom (c .before .before .before .before .before .args .self)) (tells toldPlace (c .before .place .given .1) (c .before .before .before .fixed-at .ensures))
 
--- src/iterators.rt:207:5
 returns-2 : tie.Need-returns-2
 returns-2 c = ap (importStepFrom (c .before .before .before .before .before .args .self)) (tells toldPlace (c .before .n .given .1) (c .before .before .before .fixed-at .ensures))
 

@@ -7,35 +7,25 @@ use native.Mathlib.Omega.{arith}
 use borrow.Author.Needs.{needs}
 use Rattle.typelib.proofs.iterators.ParamCursor.step.Statement.{statement}
 use Rattle.typelib.proofs.iterators.ParamCursor.step.Tie as tie
-use Rattle.typelib.proofs.iterators.ParamCursor.step.Reads as reads
-use Rattle.typelib.proofs.iterators.ParamCursor.step.Lts as lts
-use Rattle.typelib.proofs.iterators.param_at.Reads as param-at-reads
 
--- src/iterators.rt:232:15
 param-at-requires : tie.Need-param-at-requires
 param-at-requires c κs = search needs
 
--- src/iterators.rt:233:32
 enum-known-place : tie.Need-enum-known-place
 enum-known-place c = search needs
 
--- src/iterators.rt:239:26
 add-t9 : tie.Need-add-t9
 add-t9 c = let h = param (c .before .before .before .before .before .args .s .now) (c .before .before .before .before .before .args .self) _ (tells toldPlace (c .before .place .given .1) (c .before .before .before .param-at .ensures)) in omega arith
 
--- src/iterators.rt:241:32
 sub-t10 : tie.Need-sub-t10
 sub-t10 c = let h = param (c .before .before .before .before .before .before .args .s .now) (c .before .before .before .before .before .before .args .self) _ (tells toldPlace (c .before .before .place .given .1) (c .before .before .before .before .param-at .ensures)) in omega arith
 
--- src/iterators.rt:244:34
 enum-known-n : tie.Need-enum-known-n
 enum-known-n c = search needs
 
--- src/iterators.rt:228:5
 returns : tie.Need-returns
 returns c = ap (paramStepFrom (c .before .before .before .before .before .before .args .self)) (tells toldPlace (c .before .before .place .given .1) (c .before .before .before .before .param-at .ensures))
 
--- src/iterators.rt:228:5
 returns-2 : tie.Need-returns-2
 returns-2 c = ap (paramStepFrom (c .before .before .before .before .before .args .self)) (tells toldPlace (c .before .n .given .1) (c .before .before .before .param-at .ensures))
 

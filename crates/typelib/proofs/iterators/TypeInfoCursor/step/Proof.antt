@@ -4,43 +4,31 @@ use Rattle.records.specs.AnswerLaws.{tells}
 use borrow.Author.Needs.{needs}
 use Rattle.typelib.proofs.iterators.TypeInfoCursor.step.Statement.{statement}
 use Rattle.typelib.proofs.iterators.TypeInfoCursor.step.Tie as tie
-use Rattle.typelib.proofs.iterators.TypeInfoCursor.step.Reads as reads
-use Rattle.typelib.proofs.iterators.TypeInfoCursor.step.Lts as lts
-use Rattle.typelib.proofs.TypeLib.typeinfo.Reads as typeinfo-reads
 
--- src/iterators.rt:283:13
 returns : tie.Need-returns
 returns c = typeinfos-long _ _ _ (c .if1 .taken)
 
--- src/iterators.rt:285:12
 cast-if2 : tie.Need-cast-if2
 cast-if2 c = search needs
 
--- src/iterators.rt:286:13
 returns-2 : tie.Need-returns-2
 returns-2 c = typeinfos-end _ _ _ (c .before .before .if1 .left) (c .if2 .taken)
 
--- src/iterators.rt:288:44
 add-t8 : tie.Need-add-t8
 add-t8 c = search needs
 
--- src/iterators.rt:289:15
 typeinfo-requires : tie.Need-typeinfo-requires
 typeinfo-requires c κs = search needs
 
--- src/iterators.rt:290:35
 enum-known-ti : tie.Need-enum-known-ti
 enum-known-ti c = search needs
 
--- src/iterators.rt:291:37
 enum-known-n : tie.Need-enum-known-n
 enum-known-n c = search needs
 
--- src/iterators.rt:278:5
 returns-3 : tie.Need-returns-3
 returns-3 c = typeinfos-next _ _ _ _ (c .before .before .before .before .before .before .if1 .left) (c .before .before .before .before .if2 .left) (tells toldTypeInfo (c .before .ti .given .1) (c .before .before .before .typeinfo .ensures))
 
--- src/iterators.rt:278:5
 returns-4 : tie.Need-returns-4
 returns-4 c = typeinfos-next _ _ _ _ (c .before .before .before .before .before .before .if1 .left) (c .before .before .before .before .if2 .left) (tells toldTypeInfo (c .before .n .given .1) (c .before .before .before .typeinfo .ensures))
 
