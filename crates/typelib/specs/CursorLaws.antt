@@ -10,16 +10,19 @@ use lib.ListN.{length, getD}
 use borrow.Author.Tests.{le-leb, lt-leb, le-ltb, lt-ltb, eq-eqb, ne-eqb, ltb-false, ltb-true, eqb-false, leb-false}
 use Rattle.util.specs.Read.{le, read, cond-elim}
 use Rattle.records.specs.declared.answer.Place.{Place}
-use Rattle.records.specs.Answer.{Answer, value, refused, bind}
-use Rattle.records.specs.Counted.{impFileSize}
-use Rattle.records.specs.Record.{limit}
+use Rattle.records.specs.Answer.{Answer, value, refused, map, bind}
+use Rattle.util.specs.Utf8.{utf8}
+use Rattle.records.specs.Counted.{impFileSize, textOf, textAt}
+use Rattle.records.specs.Record.{limit, recordPlace, partOf}
 use Rattle.typelib.specs.declared.TypeLib.{TypeLib}
 use Rattle.typelib.specs.declared.iterators.ParamCursor.{ParamCursor}
+use Rattle.typelib.specs.declared.iterators.NameCursor.{NameCursor}
+use Rattle.records.specs.declared.name.NameEntry.{NameEntry}
 use Rattle.typelib.specs.declared.iterators.TypeInfoCursor.{TypeInfoCursor}
-use Rattle.typelib.specs.TableLaws.{lent-fits}
+use Rattle.typelib.specs.TableLaws.{lent-fits, record-inside}
 use Rattle.typelib.specs.Tables.{lent, segmentPlace, segmentOf}
 use Rattle.typelib.specs.TypeInfos.{typeinfoOf}
-use Rattle.typelib.specs.Cursors.{Step, yielded, ended, sizeAt, recordAt, blockFrom, blockWith, skip, fixedAt, paramCursor, paramAt, impFileEntry, typeinfoStepFrom, typeinfoStep}
+use Rattle.typelib.specs.Cursors.{Step, yielded, ended, sizeAt, recordAt, blockFrom, blockWith, skip, fixedAt, paramCursor, paramAt, impFileEntry, typeinfoStepFrom, typeinfoStep, nameEntryFrom, nameEntry}
 
 -- ---- records that carry their length
 
@@ -288,3 +291,55 @@ params-none r n h = rw (lt-ltb (r .len) (12 * n) h)
 pub params-there : (r : Place) (n : ℕ) → 12 * n ≤ r .len → record { pos = r .at + (r .len - 12 * n); end = r .at + r .len; remaining = n } ≡ paramCursor r n
 unfolding paramCursor
 params-there r n h = rw (le-ltb (r .len) (12 * n) h)
+
+-- ---- names
+
+lent-inner : {A : Type 0} (s : List ℕ) (a r : Answer A) → length s ≤ limit → r ≡ lent s a → r ≡ a
+lent-inner s a r h e = e ∙ sym (lent-fits s a a h refl)
+
+module _ (s : List ℕ) (c : NameCursor) where
+  pub name-before : c .pos < c .start → refused 9 ≡ nameEntry s c
+  unfolding nameEntry
+  name-before h = rw (lt-ltb (c .pos) (c .start) h)
+
+  pub name-none : (n : ℕ) → length s ≤ limit → c .start ≤ c .pos → refused n ≡ lent s (fixedAt s (c .pos) (c .end) 12) → refused n ≡ nameEntry s c
+  unfolding nameEntry
+  name-none n l h e =
+      rw (le-ltb (c .pos) (c .start) h, ← lent-inner s (fixedAt s (c .pos) (c .end) 12) (refused n) l e)
+
+  pub name-some : (p : Place) (a : Answer NameEntry) → c .start ≤ c .pos → value p ≡ lent s (fixedAt s (c .pos) (c .end) 12) → a ≡ map (nameEntryFrom s c) (textAt s (c .pos + 12) (le 1 s (c .pos + 8))) → a ≡ nameEntry s c
+  unfolding nameEntry
+  name-some p a h e f = rw (le-ltb (c .pos) (c .start) h, ← lent-value s p (fixedAt s (c .pos) (c .end) 12) e .is) f
+
+-- a text's place is inside the list
+pub text-inside : (s : List ℕ) (at len : ℕ) (p : Place) → value p ≡ textAt s at len → p .at + p .len ≤ length s
+unfolding textOf
+text-inside s at len p = go (recordPlace 0 s at len) (record-inside 0 s at len)
+  where
+    go : (a : Answer Place) → ((q : Place) → value q ≡ a → q .at + q .len ≤ length s) → value p ≡ bind a (λ q. cond (utf8 (partOf s (value q))) (value q) (refused 9)) → p .at + p .len ≤ length s
+    go (value q) h =
+        cond-elim (λ (r : Answer Place). value p ≡ r → p .at + p .len ≤ length s) (utf8 (partOf s (value q))) (value q) (refused 9)
+        (λ _ e. h p e)
+        (λ _ e. let z : _≡_ {A = ℕ} 0 1 = cc in absurd (omega arith))
+    go (refused n) h = λ e. let z : _≡_ {A = ℕ} 0 1 = cc in absurd (omega arith)
+
+map-inside : (s : List ℕ) (c : NameCursor) (e : NameEntry) (a : Answer Place) → ((q : Place) → value q ≡ a → q .at + q .len ≤ length s) → value e ≡ map (nameEntryFrom s c) a → e .text .at + e .text .len ≤ length s
+map-inside s c e (value q) h f =
+    let g : e ≡ nameEntryFrom s c q = cc in
+    let t : e .text ≡ q = ap (λ (x : NameEntry). x .text) g in
+    rw t (h q refl)
+map-inside s c e (refused n) h f = let z : _≡_ {A = ℕ} 0 1 = cc in absurd (omega arith)
+
+bind-entry : (s : List ℕ) (c : NameCursor) (e : NameEntry) (a : Answer Place) → value e ≡ bind a (λ _. map (nameEntryFrom s c) (textAt s (c .pos + 12) (le 1 s (c .pos + 8)))) → e .text .at + e .text .len ≤ length s
+bind-entry s c e (value q) f =
+    map-inside s c e (textAt s (c .pos + 12) (le 1 s (c .pos + 8))) (text-inside s (c .pos + 12) (le 1 s (c .pos + 8))) f
+bind-entry s c e (refused n) f = let z : _≡_ {A = ℕ} 0 1 = cc in absurd (omega arith)
+
+pub name-inside : (s : List ℕ) (c : NameCursor) (e : NameEntry) → value e ≡ lent s (nameEntry s c) → e .text .at + e .text .len ≤ length s
+unfolding nameEntry
+name-inside s c e f =
+    cond-elim (λ (r : Answer NameEntry). value e ≡ r → e .text .at + e .text .len ≤ length s) (ltb (c .pos) (c .start)) (refused 9)
+    (bind (fixedAt s (c .pos) (c .end) 12) (λ _. map (nameEntryFrom s c) (textAt s (c .pos + 12) (le 1 s (c .pos + 8)))))
+    (λ _ g. let z : _≡_ {A = ℕ} 0 1 = cc in absurd (omega arith))
+    (λ _ g. bind-entry s c e (fixedAt s (c .pos) (c .end) 12) g)
+    (lent-value s e (nameEntry s c) f .is)

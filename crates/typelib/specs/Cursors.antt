@@ -5,13 +5,15 @@ use mathlib.Core.Option.{Option, some, none}
 use Prim.Native.Nat.{ℕ, zero, suc, _+_, _-_, _*_, _/_, _%_}
 use lib.Dec.{leb, ltb, eqb}
 use lib.ListN.{length}
+use mir.Syntax.{w32}
+use mir.Val.{toZ}
 use Rattle.util.specs.Read.{le, read}
 use Rattle.records.specs.declared.answer.Place.{Place}
 use Rattle.records.specs.declared.func.FuncRecord.{FuncRecord}
 use Rattle.records.specs.declared.typeinfo.TypeInfoEntry.{TypeInfoEntry}
 use Rattle.records.specs.Answer.{Answer, value, refused, map, bind}
 use Rattle.records.specs.Attributes.{argumentCount}
-use Rattle.records.specs.Counted.{impFileSize}
+use Rattle.records.specs.Counted.{impFileSize, textAt}
 use Rattle.records.specs.Layout.{sizeOf, offsetOf, funcRecord, varRecord, parameterInfo, guidEntry, impInfo, impFile}
 use Rattle.records.specs.Record.{limit, bitsOf, recordPlace}
 use Rattle.typelib.specs.declared.TypeLib.{TypeLib}
@@ -21,15 +23,23 @@ use Rattle.typelib.specs.declared.iterators.ParamCursor.{ParamCursor}
 use Rattle.typelib.specs.declared.iterators.GuidCursor.{GuidCursor}
 use Rattle.typelib.specs.declared.iterators.ImportCursor.{ImportCursor}
 use Rattle.typelib.specs.declared.iterators.ImpFileCursor.{ImpFileCursor}
+use Rattle.typelib.specs.declared.iterators.NameCursor.{NameCursor}
+use Rattle.records.specs.declared.name.NameEntry.{NameEntry}
 use Rattle.typelib.specs.declared.iterators.TypeInfoCursor.{TypeInfoCursor}
 use Rattle.typelib.specs.declared.typeinfos.Counts.{Counts}
 use Rattle.typelib.specs.Tables.{lent, negative, segmentOf}
+use Rattle.typelib.specs.Names.{nameIntro}
 use Rattle.typelib.specs.TypeInfos.{ofTypeInfo, countsOf, typeinfoOf}
 
 -- a record and the next cursor; or a refusal and a cursor, which is the same one at the end
 pub data Step (C : Type 0) : Type 0 where
   yielded : Place → C → Step C
   ended : ℕ → C → Step C
+
+-- the same of the cursor over names, which yields an entry by value
+pub data NameYield : Type 0 where
+  entry : NameEntry → NameCursor → NameYield
+  over : ℕ → NameCursor → NameYield
 
 -- ---- records of a block, which carry their length
 
@@ -187,3 +197,42 @@ unfoldable pub typeinfoStep : List ℕ → TypeLib → TypeInfoCursor → Step T
 typeinfoStep s lib c =
     cond (ltb limit (length s)) (ended 1 c)
     (cond (leb (lib .count) (c .index)) (ended 9 c) (typeinfoStepFrom c (typeinfoOf s lib (c .index))))
+
+-- ---- names
+
+-- what stands before a name, with the place of its text
+abbrev pub nameEntryFrom : List ℕ → NameCursor → Place → NameEntry
+nameEntryFrom s c text =
+    record {
+      offset = c .pos - c .start;
+      text = text;
+      hreftype = toZ w32 (le 4 s (c .pos));
+      «next_hash» = toZ w32 (le 4 s (c .pos + offsetOf nameIntro "next_hash"));
+      flags = le 1 s (c .pos + offsetOf nameIntro "flags");
+      hashcode = le 2 s (c .pos + offsetOf nameIntro "hashcode");
+    }
+
+-- The entry at the cursor: its intro ends by the segment's end and the file's, its text by the file's, and the text is UTF-8.
+-- A cursor before its table's start has no entry.
+unfoldable pub nameEntry : List ℕ → NameCursor → Answer NameEntry
+nameEntry s c =
+    cond (ltb (c .pos) (c .start)) (refused 9)
+    (bind (fixedAt s (c .pos) (c .end) (sizeOf nameIntro)) (λ _.
+    map (nameEntryFrom s c) (textAt s (c .pos + sizeOf nameIntro) (le 1 s (c .pos + offsetOf nameIntro "namelen")))))
+
+-- the next entry starts behind the text, filled up to a multiple of four
+abbrev pub nameStepFrom : NameCursor → Answer NameEntry → NameYield
+nameStepFrom c (value e) =
+    entry e (record { pos = e .text .at + (e .text .len + 3) / 4 * 4; end = c .end; start = c .start })
+nameStepFrom c (refused n) = over n c
+
+abbrev pub nameStep : List ℕ → NameCursor → NameYield
+nameStep s c = nameStepFrom c (lent s (nameEntry s c))
+
+abbrev pub namesOf : TypeLib → NameCursor
+namesOf lib =
+    record {
+      pos = tableOf (segmentOf lib 7) .at;
+      end = tableOf (segmentOf lib 7) .at + tableOf (segmentOf lib 7) .len;
+      start = tableOf (segmentOf lib 7) .at;
+    }

@@ -9,6 +9,7 @@ pub mod TypeInfos
 pub mod TypeInfoLaws
 pub mod Nine
 pub mod Descriptors
+pub mod DescriptorLaws
 pub mod References
 pub mod ReferenceLaws
 pub mod Cursors

@@ -16,6 +16,9 @@ use Rattle.typelib.specs.declared.descriptors.PairAnswer.{PairAnswer}
 use Rattle.typelib.specs.declared.descriptors.PairAnswer.the-variants as pair
 use Rattle.typelib.specs.declared.descriptors.ArrayDescAnswer.{ArrayDescAnswer}
 use Rattle.typelib.specs.declared.descriptors.ArrayDescAnswer.the-variants as arrayDesc
+use Rattle.typelib.specs.declared.descriptors.DescriptionAnswer.{DescriptionAnswer}
+use Rattle.typelib.specs.declared.descriptors.DescriptionAnswer.the-variants as description
+use Rattle.records.specs.declared.types.TypeDescription.{TypeDescription}
 use Rattle.typelib.specs.declared.references.ImpFileAnswer.{ImpFileAnswer}
 use Rattle.typelib.specs.declared.references.ImpFileAnswer.the-variants as impFile
 use Rattle.typelib.specs.declared.references.IndexAnswer.{IndexAnswer}
@@ -56,7 +59,13 @@ use Rattle.typelib.specs.declared.iterators.Skipped.{Skipped}
 use Rattle.typelib.specs.declared.iterators.Skipped.the-variants as skipped
 use Rattle.typelib.specs.declared.iterators.Block.{Block}
 use Rattle.typelib.specs.declared.iterators.Block.the-variants as block
-use Rattle.typelib.specs.Cursors.{Step, yielded, ended}
+use Rattle.records.specs.declared.name.NameEntry.{NameEntry}
+use Rattle.typelib.specs.declared.iterators.NameCursor.{NameCursor}
+use Rattle.typelib.specs.declared.iterators.NameStep.{NameStep}
+use Rattle.typelib.specs.declared.iterators.NameStep.the-variants as nameStep
+use Rattle.typelib.specs.declared.iterators.NameEntryAnswer.{NameEntryAnswer}
+use Rattle.typelib.specs.declared.iterators.NameEntryAnswer.the-variants as nameEntry
+use Rattle.typelib.specs.Cursors.{Step, yielded, ended, NameYield, entry, over}
 
 abbrev pub toldCounts : CountsAnswer → Answer Counts
 toldCounts (counts.Value c) = value c
@@ -141,3 +150,15 @@ toldSkip skipped.Nothing = none
 abbrev pub toldBlock : Block → Option Place
 toldBlock (block.Some at size) = some (record { at = at + 4; len = size })
 toldBlock block.Nothing = none
+
+abbrev pub toldDescription : DescriptionAnswer → Answer TypeDescription
+toldDescription (description.Value d) = value d
+toldDescription (description.Refused n) = refused n
+
+abbrev pub toldNameEntry : NameEntryAnswer → Answer NameEntry
+toldNameEntry (nameEntry.Value e) = value e
+toldNameEntry (nameEntry.Refused n) = refused n
+
+abbrev pub toldNameStep : NameStep → NameYield
+toldNameStep (nameStep.Record e c) = entry e c
+toldNameStep (nameStep.Refused n c) = over n c

@@ -2,11 +2,18 @@
 use crate::TypeLib;
 use records::answer::PlaceAnswer;
 use records::arraydesc::ArrayDesc;
+use records::types::TypeDescription;
 ghost use mathlib.Core.Path.{_≡_};
+ghost use Prim.Native.Nat.{_<_};
 ghost use mir.Syntax.{w32};
 ghost use mir.Val.{ofZ};
-ghost use Rattle.typelib.specs.Descriptors.{typeDescAt, arrayDescAt};
-ghost use Rattle.typelib.specs.Told.{toldPair, toldArrayDesc};
+ghost use Rattle.typelib.specs.Descriptors.{typeDescAt, arrayDescAt, descriptionOf, typeDescription};
+ghost use Rattle.typelib.specs.Tables.{lent};
+ghost use Rattle.typelib.specs.Told.{toldPair, toldArrayDesc, toldDescription};
+
+const LIMIT: usize = 16_777_216;
+
+const NEGATIVE: u32 = 0x8000_0000;
 
 const TYPE_TABLE: usize = 9;
 
@@ -25,6 +32,11 @@ pub enum PairAnswer {
 
 pub enum ArrayDescAnswer {
     Value(ArrayDesc),
+    Refused(u8),
+}
+
+pub enum DescriptionAnswer {
+    Value(TypeDescription),
     Refused(u8),
 }
 
@@ -72,6 +84,51 @@ impl TypeLib {
                 }
             }
             PlaceAnswer::Refused(n) => ArrayDescAnswer::Refused(n),
+        }
+    }
+
+    // What a type field names, one level of it.
+    pub fn type_description(self, s: &[u8], datatype: i32) -> DescriptionAnswer
+        ensures { λ r. ⌜ toldDescription r ≡ lent (now (s .entry)) (typeDescription (now (s .entry)) self (ofZ w32 datatype)) ⌝ }
+    {
+        self.type_description_at(s, util::unsigned32(datatype))
+    }
+
+    pub fn type_description_at(self, s: &[u8], field: u32) -> DescriptionAnswer
+        ensures { λ r. ⌜ toldDescription r ≡ lent (now (s .entry)) (typeDescription (now (s .entry)) self field) ⌝ }
+    {
+        if LIMIT < s.len() {
+            return DescriptionAnswer::Refused(1);
+        }
+        if NEGATIVE <= field {
+            let code = util::bits(field, 0, 12) as u16;
+            return DescriptionAnswer::Value(TypeDescription::Base(code));
+        }
+        match self.type_desc_at(s, field) {
+            PairAnswer::Value(words) => {
+                let code = util::bits(words.first, 0, 12);
+                self.description_of(s, code, words.second)
+            }
+            PairAnswer::Refused(n) => DescriptionAnswer::Refused(n),
+        }
+    }
+
+    // By the code of an entry and its second word.
+    fn description_of(self, s: &[u8], code: u32, second: u32) -> DescriptionAnswer
+        requires { ⌜ code < 4096 ⌝ }
+        ensures { λ r. ⌜ toldDescription r ≡ descriptionOf (now (s .entry)) self code second ⌝ }
+    {
+        match code {
+            26 => DescriptionAnswer::Value(TypeDescription::Pointer(util::signed32(second))),
+            27 => DescriptionAnswer::Value(TypeDescription::SafeArray(util::signed32(second))),
+            28 => match self.array_desc_at(s, util::bits(second, 0, 16)) {
+                ArrayDescAnswer::Value(array) => {
+                    DescriptionAnswer::Value(TypeDescription::CArray(array))
+                }
+                ArrayDescAnswer::Refused(n) => DescriptionAnswer::Refused(n),
+            },
+            29 => DescriptionAnswer::Value(TypeDescription::UserDefined(util::signed32(second))),
+            _ => DescriptionAnswer::Value(TypeDescription::Base(code as u16)),
         }
     }
 }

@@ -9,6 +9,7 @@ use crate::typeinfos;
 use crate::typeinfos::Counts;
 use crate::typeinfos::CountsAnswer;
 use crate::typeinfos::TypeInfoAnswer;
+use records::answer;
 use records::answer::Place;
 use records::answer::PlaceAnswer;
 use records::answer::U16Answer;
@@ -19,15 +20,17 @@ use records::func::FuncRecord;
 use records::guidentry::GuidEntry;
 use records::impfile::ImpFile;
 use records::impinfo::ImpInfo;
+use records::name::NameEntry;
 use records::param::ParameterInfo;
 use records::typeinfo::TypeInfoEntry;
 use records::var::VarRecord;
 ghost use mathlib.Core.Path.{_≡_};
-ghost use Prim.Native.Nat.{_+_, _-_, _^_, _<_};
+ghost use Prim.Native.Nat.{_+_, _-_, _^_, _≤_, _<_};
+ghost use lib.ListN.{length};
 ghost use Rattle.records.specs.Told.{toldPlace, toldUsize};
-ghost use Rattle.typelib.specs.Cursors.{recordAt, funcStep, varStep, blockWith, funcCursor, funcsOf, skip, varsFrom, varCursor, varsOf, fixedAt, guidStep, importStep, paramCursor, paramsOf, paramAt, paramStep, impFileEntry, impFileStep, tableOf, guidsOf, importsOf, impFilesOf, typeinfoStep};
+ghost use Rattle.typelib.specs.Cursors.{recordAt, funcStep, varStep, blockWith, funcCursor, funcsOf, skip, varsFrom, varCursor, varsOf, fixedAt, guidStep, importStep, paramCursor, paramsOf, paramAt, paramStep, impFileEntry, impFileStep, tableOf, guidsOf, importsOf, impFilesOf, typeinfoStep, nameEntryFrom, nameEntry, nameStep, namesOf};
 ghost use Rattle.typelib.specs.Tables.{lent, segmentOf};
-ghost use Rattle.typelib.specs.Told.{toldFuncs, toldFuncStep, toldVars, toldVarStep, toldParams, toldParamStep, toldGuidStep, toldImportStep, toldImpFileStep, toldTypeInfoStep, toldBlock, toldSkip};
+ghost use Rattle.typelib.specs.Told.{toldFuncs, toldFuncStep, toldVars, toldVarStep, toldParams, toldParamStep, toldGuidStep, toldImportStep, toldImpFileStep, toldTypeInfoStep, toldNameStep, toldNameEntry, toldBlock, toldSkip};
 
 const LIMIT: usize = 16_777_216;
 
@@ -109,6 +112,23 @@ pub struct ImpFileCursor {
 pub enum ImpFileStep {
     Record(ImpFile, ImpFileCursor),
     Refused(u8, ImpFileCursor),
+}
+
+// Over the name table from `start`, whose entries are counted from there.
+pub struct NameCursor {
+    pub pos: usize,
+    pub end: usize,
+    pub start: usize,
+}
+
+pub enum NameStep {
+    Record(NameEntry, NameCursor),
+    Refused(u8, NameCursor),
+}
+
+pub enum NameEntryAnswer {
+    Value(NameEntry),
+    Refused(u8),
 }
 
 pub struct TypeInfoCursor {
@@ -209,6 +229,18 @@ impl TypeLib {
         ImpFileCursor {
             pos: table.at,
             end: table.at + table.len,
+        }
+    }
+
+    // The entries of the name table.
+    pub fn names(self) -> NameCursor
+        ensures { λ r. ⌜ r ≡ namesOf self ⌝ }
+    {
+        let table = self.table(7);
+        NameCursor {
+            pos: table.at,
+            end: table.at + table.len,
+            start: table.at,
         }
     }
 
@@ -363,6 +395,27 @@ impl ImpFileCursor {
                 },
             ),
             PlaceAnswer::Refused(n) => ImpFileStep::Refused(n, self),
+        }
+    }
+}
+
+impl NameCursor {
+    pub fn step(self, s: &[u8]) -> NameStep
+        ensures { λ r. ⌜ toldNameStep r ≡ nameStep (now (s .entry)) self ⌝ }
+    {
+        match name_entry(s, self) {
+            NameEntryAnswer::Value(entry) => {
+                let text = entry.text;
+                NameStep::Record(
+                    entry,
+                    NameCursor {
+                        pos: text.at + (text.len + 3) / 4 * 4,
+                        end: self.end,
+                        start: self.start,
+                    },
+                )
+            }
+            NameEntryAnswer::Refused(n) => NameStep::Refused(n, self),
         }
     }
 }
@@ -578,5 +631,43 @@ fn param_cursor(place: Place, count: u16) -> ParamCursor
         pos: place.at + (len - size),
         end: place.at + len,
         remaining: count as usize,
+    }
+}
+
+// The entry of the name table at the cursor.
+fn name_entry(s: &[u8], c: NameCursor) -> NameEntryAnswer
+    ensures { λ r. ⌜ toldNameEntry r ≡ lent (now (s .entry)) (nameEntry (now (s .entry)) c) ⌝ }
+{
+    let pos = c.pos;
+    if LIMIT < s.len() {
+        return NameEntryAnswer::Refused(1);
+    }
+    if pos < c.start {
+        return NameEntryAnswer::Refused(9);
+    }
+    match fixed_at(s, pos, c.end, 12) {
+        PlaceAnswer::Value(_) => {
+            let len = util::u8_or_zero(s, pos + 8) as usize;
+            match answer::text(s, field::record_place(s, pos + 12, len, 0)) {
+                PlaceAnswer::Value(text) => NameEntryAnswer::Value(name_entry_from(s, c, text)),
+                PlaceAnswer::Refused(n) => NameEntryAnswer::Refused(n),
+            }
+        }
+        PlaceAnswer::Refused(n) => NameEntryAnswer::Refused(n),
+    }
+}
+
+fn name_entry_from(s: &[u8], c: NameCursor, text: Place) -> NameEntry
+    requires { ⌜ (c .pos + 12 ≤ length (now s)) × (c .start ≤ c .pos) ⌝ }
+    ensures { λ r. ⌜ r ≡ nameEntryFrom (now (s .entry)) c text ⌝ }
+{
+    let pos = c.pos;
+    NameEntry {
+        offset: pos - c.start,
+        text,
+        hreftype: util::signed32(util::u32_or_zero(s, pos)),
+        next_hash: util::signed32(util::u32_or_zero(s, pos + 4)),
+        flags: util::u8_or_zero(s, pos + 9),
+        hashcode: util::u16_or_zero(s, pos + 10),
     }
 }
