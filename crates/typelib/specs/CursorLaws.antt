@@ -15,6 +15,11 @@ use Rattle.util.specs.Utf8.{utf8}
 use Rattle.records.specs.Counted.{impFileSize, textOf, textAt}
 use Rattle.records.specs.Record.{limit, recordPlace, partOf}
 use Rattle.typelib.specs.declared.TypeLib.{TypeLib}
+use Rattle.typelib.specs.declared.iterators.FuncCursor.{FuncCursor}
+use Rattle.typelib.specs.declared.iterators.VarCursor.{VarCursor}
+use Rattle.typelib.specs.declared.iterators.GuidCursor.{GuidCursor}
+use Rattle.typelib.specs.declared.iterators.ImportCursor.{ImportCursor}
+use Rattle.typelib.specs.declared.iterators.ImpFileCursor.{ImpFileCursor}
 use Rattle.typelib.specs.declared.iterators.ParamCursor.{ParamCursor}
 use Rattle.typelib.specs.declared.iterators.NameCursor.{NameCursor}
 use Rattle.records.specs.declared.name.NameEntry.{NameEntry}
@@ -22,6 +27,7 @@ use Rattle.typelib.specs.declared.iterators.TypeInfoCursor.{TypeInfoCurs
 use Rattle.typelib.specs.TableLaws.{lent-fits, record-inside}
 use Rattle.typelib.specs.Tables.{lent, segmentPlace, segmentOf}
 use Rattle.typelib.specs.TypeInfos.{typeinfoOf}
+use Rattle.typelib.specs.Cursors.{funcStepFrom, funcStep, varStepFrom, varStep, paramStepFrom, paramStep, guidStepFrom, guidStep, importStepFrom, importStep, impFileStepFrom, impFileStep}
 use Rattle.typelib.specs.Cursors.{Step, yielded, ended, sizeAt, recordAt, blockFrom, blockWith, skip, fixedAt, paramCursor, paramAt, impFileEntry, typeinfoStepFrom, typeinfoStep, nameEntryFrom, nameEntry}
 
 -- ---- records that carry their length
@@ -343,3 +349,39 @@ name-inside s c e f =
     (λ _ g. let z : _≡_ {A = ℕ} 0 1 = cc in absurd (omega arith))
     (λ _ g. bind-entry s c e (fixedAt s (c .pos) (c .end) 12) g)
     (lent-value s e (nameEntry s c) f .is)
+
+-- ---- a cursor that has yielded nothing
+
+-- It comes back as it was, so that over the same bytes it yields nothing again: what a step makes of a value is never an
+-- end, and what it makes of a refusal is an end where the cursor stands.
+stays : {A C : Type 0} (c : C) (from : Answer A → Step C) → ((x : A) (n : ℕ) (d : C) → ended n d ≡ from (value x) → ⊥) → ((n : ℕ) → from (refused n) ≡ ended n c) → (a : Answer A) (n : ℕ) (d : C) → ended n d ≡ from a → d ≡ c
+stays c from go end (value x) n d e = absurd (go x n d e)
+stays c from go end (refused m) n d e = let f = end m in cc
+
+yields : {C : Type 0} (n : ℕ) (d : C) (p : Place) (c : C) → ended n d ≡ yielded p c → ⊥
+yields n d p c e = let z : _≡_ {A = ℕ} 0 1 = cc in omega arith
+
+module _ (s : List ℕ) (n : ℕ) where
+  pub func-again : (c d : FuncCursor) → ended n d ≡ funcStep s c → ended n d ≡ funcStep s d
+  func-again c d e =
+      e ∙ ap (funcStep s) (sym (stays c (funcStepFrom c) (λ x m b. yields m b _ _) (λ m. refl) (lent s (recordAt s (c .pos) (c .end) (c .remaining) 24)) n d e))
+
+  pub var-again : (c d : VarCursor) → ended n d ≡ varStep s c → ended n d ≡ varStep s d
+  var-again c d e =
+      e ∙ ap (varStep s) (sym (stays c (varStepFrom c) (λ x m b. yields m b _ _) (λ m. refl) (lent s (recordAt s (c .pos) (c .end) (c .remaining) 20)) n d e))
+
+  pub param-again : (c d : ParamCursor) → ended n d ≡ paramStep s c → ended n d ≡ paramStep s d
+  param-again c d e =
+      e ∙ ap (paramStep s) (sym (stays c (paramStepFrom c) (λ x m b. yields m b _ _) (λ m. refl) (lent s (paramAt s c)) n d e))
+
+  pub guid-again : (c d : GuidCursor) → ended n d ≡ guidStep s c → ended n d ≡ guidStep s d
+  guid-again c d e =
+      e ∙ ap (guidStep s) (sym (stays c (guidStepFrom c) (λ x m b. yields m b _ _) (λ m. refl) (lent s (fixedAt s (c .pos) (c .end) 24)) n d e))
+
+  pub import-again : (c d : ImportCursor) → ended n d ≡ importStep s c → ended n d ≡ importStep s d
+  import-again c d e =
+      e ∙ ap (importStep s) (sym (stays c (importStepFrom c) (λ x m b. yields m b _ _) (λ m. refl) (lent s (fixedAt s (c .pos) (c .end) 12)) n d e))
+
+  pub impFile-again : (c d : ImpFileCursor) → ended n d ≡ impFileStep s c → ended n d ≡ impFileStep s d
+  impFile-again c d e =
+      e ∙ ap (impFileStep s) (sym (stays c (impFileStepFrom c) (λ x m b. yields m b _ _) (λ m. refl) (lent s (impFileEntry s (c .pos) (c .end))) n d e))

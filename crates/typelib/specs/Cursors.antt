@@ -36,6 +36,11 @@ pub data Step (C : Type 0) : Type 0 where
   yielded : Place → C → Step C
   ended : ℕ → C → Step C
 
+-- goes on with the value, or ends where the cursor stands
+abbrev pub stepBy : {A C : Type 0} → C → (A → Step C) → Answer A → Step C
+stepBy c f (value a) = f a
+stepBy c f (refused n) = ended n c
+
 -- the same of the cursor over names, which yields an entry by value
 pub data NameYield : Type 0 where
   entry : NameEntry → NameCursor → NameYield
@@ -58,17 +63,17 @@ recordAt s pos end remaining least =
     (cond (ltb (length s) (pos + sizeAt s pos)) (refused 9) (value (sizeAt s pos))))))
 
 abbrev pub funcStepFrom : FuncCursor → Answer ℕ → Step FuncCursor
-funcStepFrom c (value n) =
-    yielded (record { at = c .pos; len = n }) (record { pos = c .pos + n; end = c .end; remaining = c .remaining - 1 })
-funcStepFrom c (refused n) = ended n c
+funcStepFrom c =
+    stepBy c (λ n.
+    yielded (record { at = c .pos; len = n }) (record { pos = c .pos + n; end = c .end; remaining = c .remaining - 1 }))
 
 abbrev pub funcStep : List ℕ → FuncCursor → Step FuncCursor
 funcStep s c = funcStepFrom c (lent s (recordAt s (c .pos) (c .end) (c .remaining) (sizeOf funcRecord)))
 
 abbrev pub varStepFrom : VarCursor → Answer ℕ → Step VarCursor
-varStepFrom c (value n) =
-    yielded (record { at = c .pos; len = n }) (record { pos = c .pos + n; end = c .end; remaining = c .remaining - 1 })
-varStepFrom c (refused n) = ended n c
+varStepFrom c =
+    stepBy c (λ n.
+    yielded (record { at = c .pos; len = n }) (record { pos = c .pos + n; end = c .end; remaining = c .remaining - 1 }))
 
 abbrev pub varStep : List ℕ → VarCursor → Step VarCursor
 varStep s c = varStepFrom c (lent s (recordAt s (c .pos) (c .end) (c .remaining) (sizeOf varRecord)))
@@ -121,15 +126,17 @@ fixedAt s pos end size =
     (cond (ltb (length s) (pos + size)) (refused 9) (value (record { at = pos; len = size })))
 
 abbrev pub guidStepFrom : GuidCursor → Answer Place → Step GuidCursor
-guidStepFrom c (value p) = yielded p (record { pos = c .pos + sizeOf guidEntry; end = c .end })
-guidStepFrom c (refused n) = ended n c
+guidStepFrom c =
+    stepBy c (λ p.
+    yielded p (record { pos = c .pos + sizeOf guidEntry; end = c .end }))
 
 abbrev pub guidStep : List ℕ → GuidCursor → Step GuidCursor
 guidStep s c = guidStepFrom c (lent s (fixedAt s (c .pos) (c .end) (sizeOf guidEntry)))
 
 abbrev pub importStepFrom : ImportCursor → Answer Place → Step ImportCursor
-importStepFrom c (value p) = yielded p (record { pos = c .pos + sizeOf impInfo; end = c .end })
-importStepFrom c (refused n) = ended n c
+importStepFrom c =
+    stepBy c (λ p.
+    yielded p (record { pos = c .pos + sizeOf impInfo; end = c .end }))
 
 abbrev pub importStep : List ℕ → ImportCursor → Step ImportCursor
 importStep s c = importStepFrom c (lent s (fixedAt s (c .pos) (c .end) (sizeOf impInfo)))
@@ -149,9 +156,9 @@ unfoldable pub paramAt : List ℕ → ParamCursor → Answer Place
 paramAt s c = cond (eqb (c .remaining) 0) (refused 9) (fixedAt s (c .pos) (c .end) (sizeOf parameterInfo))
 
 abbrev pub paramStepFrom : ParamCursor → Answer Place → Step ParamCursor
-paramStepFrom c (value p) =
-    yielded p (record { pos = c .pos + sizeOf parameterInfo; end = c .end; remaining = c .remaining - 1 })
-paramStepFrom c (refused n) = ended n c
+paramStepFrom c =
+    stepBy c (λ p.
+    yielded p (record { pos = c .pos + sizeOf parameterInfo; end = c .end; remaining = c .remaining - 1 }))
 
 abbrev pub paramStep : List ℕ → ParamCursor → Step ParamCursor
 paramStep s c = paramStepFrom c (lent s (paramAt s c))
@@ -165,8 +172,9 @@ impFileEntry s pos end =
     fixedAt s pos end (impFileSize (le 2 s (pos + offsetOf impFile "size"))))
 
 abbrev pub impFileStepFrom : ImpFileCursor → Answer Place → Step ImpFileCursor
-impFileStepFrom c (value p) = yielded p (record { pos = c .pos + p .len; end = c .end })
-impFileStepFrom c (refused n) = ended n c
+impFileStepFrom c =
+    stepBy c (λ p.
+    yielded p (record { pos = c .pos + p .len; end = c .end }))
 
 abbrev pub impFileStep : List ℕ → ImpFileCursor → Step ImpFileCursor
 impFileStep s c = impFileStepFrom c (lent s (impFileEntry s (c .pos) (c .end)))
