@@ -17,4 +17,9 @@ pub mod CursorLaws
 pub mod Search
 pub mod Chain
 pub mod ChainLaws
+pub mod Constants
+pub mod ConstantLaws
+pub mod Members
+pub mod MemberLaws
 pub mod Told
+pub mod Edges

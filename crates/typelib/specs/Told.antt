@@ -66,6 +66,9 @@ use Rattle.typelib.specs.declared.iterators.NameStep.the-variants as nam
 use Rattle.typelib.specs.declared.iterators.NameEntryAnswer.{NameEntryAnswer}
 use Rattle.typelib.specs.declared.iterators.NameEntryAnswer.the-variants as nameEntry
 use Rattle.typelib.specs.Cursors.{Step, yielded, ended, NameYield, entry, over}
+use Rattle.records.specs.declared.types.ConstValue.{ConstValue}
+use Rattle.typelib.specs.declared.constants.ConstAnswer.{ConstAnswer}
+use Rattle.typelib.specs.declared.constants.ConstAnswer.the-variants as constant
 
 abbrev pub toldCounts : CountsAnswer → Answer Counts
 toldCounts (counts.Value c) = value c
@@ -162,3 +165,7 @@ toldNameEntry (nameEntry.Refused n) = refused n
 abbrev pub toldNameStep : NameStep → NameYield
 toldNameStep (nameStep.Record e c) = entry e c
 toldNameStep (nameStep.Refused n c) = over n c
+
+abbrev pub toldConst : ConstAnswer → Answer ConstValue
+toldConst (constant.Value v) = value v
+toldConst (constant.Refused n) = refused n

@@ -5,10 +5,12 @@
 // checks.
 use records::answer::Place;
 
+pub mod constants;
 pub mod descriptors;
 mod header;
 pub mod impltypes;
 pub mod iterators;
+mod members;
 mod names;
 pub mod references;
 pub mod typeinfos;

@@ -35,7 +35,7 @@ pub enum TypeInfoAnswer {
 
 impl TypeLib {
     // The word of the offset table: the typeinfo's byte offset in segment 0.
-    fn offset_word(self, s: &[u8], index: usize) -> U32Answer
+    pub fn offset_word(self, s: &[u8], index: usize) -> U32Answer
         ensures { λ r. ⌜ toldU32 r ≡ offsetWord (now (s .entry)) self index ⌝ }
     {
         if self.count as usize <= index {

@@ -11,70 +11,51 @@ use mathlib.Core.Path.{_∙_, ap, sym, refl}
 use borrow.Author.Needs.{needs}
 use Rattle.typelib.proofs.TypeLib.description_of.Statement.{statement}
 use Rattle.typelib.proofs.TypeLib.description_of.Tie as tie
-use Rattle.typelib.proofs.TypeLib.description_of.Reads as reads
-use Rattle.typelib.proofs.TypeLib.description_of.Lts as lts
-use Rattle.typelib.proofs.TypeLib.array_desc_at.Reads as array-desc-at-reads
-use Rattle.util.proofs.bits.Reads as bits-reads
-use Rattle.util.proofs.signed32.Reads as signed32-reads
 
--- src/descriptors.rt:122:69
 signed32-requires : tie.Need-signed32-requires
 signed32-requires c κs = search needs
 
--- src/descriptors.rt:123:71
 signed32-requires-2 : tie.Need-signed32-requires-2
 signed32-requires-2 c κs = search needs
 
--- src/descriptors.rt:124:47
 bits-requires : tie.Need-bits-requires
 bits-requires c κs = search needs
 
--- src/descriptors.rt:124:25
 array-desc-at-requires : tie.Need-array-desc-at-requires
 array-desc-at-requires c κs = search needs
 
--- src/descriptors.rt:125:40
 enum-known-array : tie.Need-enum-known-array
 enum-known-array c = search needs
 
--- src/descriptors.rt:128:42
 enum-known-n : tie.Need-enum-known-n
 enum-known-n c = search needs
 
--- src/descriptors.rt:130:73
 signed32-requires-3 : tie.Need-signed32-requires-3
 signed32-requires-3 c κs = search needs
 
--- src/descriptors.rt:131:65
 cast-t18 : tie.Need-cast-t18
 cast-t18 c = search needs
 
--- src/descriptors.rt:117:5
 returns : tie.Need-returns
 unfolding descriptionOf
 returns c = description-case 26 (c .before .before .before .args .s .now) (c .before .before .before .args .self) (c .before .before .before .args .code) (c .before .before .before .args .second) _ (c .before .match .keys1) (ap (λ z. value (Pointer z)) (toZ-ofZ w32 _ (record { sfits = c .signed32 .ok }) ∙ c .signed32 .ensures))
 
--- src/descriptors.rt:117:5
 returns-2 : tie.Need-returns-2
 unfolding descriptionOf
 returns-2 c = description-case 27 (c .before .before .before .args .s .now) (c .before .before .before .args .self) (c .before .before .before .args .code) (c .before .before .before .args .second) _ (c .before .match .keys2) (ap (λ z. value (SafeArray z)) (toZ-ofZ w32 _ (record { sfits = c .signed322 .ok }) ∙ c .signed322 .ensures))
 
--- src/descriptors.rt:117:5
 returns-3 : tie.Need-returns-3
 unfolding descriptionOf
 returns-3 c = description-case 28 _ _ _ _ _ (c .before .before .before .before .before .match .keys3) (map-value _ _ _ _ (tells toldArrayDesc (c .before .array .given .1) (c .before .before .before .array-desc-at .ensures ∙ ap (arrayDescAt (c .before .before .before .before .before .before .before .args .s .now) (c .before .before .before .before .before .before .before .args .self)) (c .before .before .before .before .bits .ensures))) refl)
 
--- src/descriptors.rt:117:5
 returns-4 : tie.Need-returns-4
 unfolding descriptionOf
 returns-4 c = description-case 28 _ _ _ _ _ (c .before .before .before .before .before .match .keys3) (map-refused _ _ _ (tells toldArrayDesc (c .before .n .given .1) (c .before .before .before .array-desc-at .ensures ∙ ap (arrayDescAt (c .before .before .before .before .before .before .before .args .s .now) (c .before .before .before .before .before .before .before .args .self)) (c .before .before .before .before .bits .ensures))))
 
--- src/descriptors.rt:117:5
 returns-5 : tie.Need-returns-5
 unfolding descriptionOf
 returns-5 c = description-case 29 (c .before .before .before .args .s .now) (c .before .before .before .args .self) (c .before .before .before .args .code) (c .before .before .before .args .second) _ (c .before .match .keys4) (ap (λ z. value (UserDefined z)) (toZ-ofZ w32 _ (record { sfits = c .signed323 .ok }) ∙ c .signed323 .ensures))
 
--- src/descriptors.rt:117:5
 returns-6 : tie.Need-returns-6
 returns-6 c = description-base _ _ _ _ (c .match .rest .0 .0 .0 .1) (c .match .rest .0 .0 .1) (c .match .rest .0 .1) (c .match .rest .1)
 

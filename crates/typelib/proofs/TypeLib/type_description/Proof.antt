@@ -6,20 +6,13 @@ use mathlib.Core.Path.{_∙_, ap}
 use borrow.Author.Needs.{needs}
 use Rattle.typelib.proofs.TypeLib.type_description.Statement.{statement}
 use Rattle.typelib.proofs.TypeLib.type_description.Tie as tie
-use Rattle.typelib.proofs.TypeLib.type_description.Reads as reads
-use Rattle.typelib.proofs.TypeLib.type_description.Lts as lts
-use Rattle.typelib.proofs.TypeLib.type_description_at.Reads as type-description-at-reads
-use Rattle.util.proofs.unsigned32.Reads as unsigned32-reads
 
--- src/descriptors.rt:94:37
 unsigned32-requires : tie.Need-unsigned32-requires
 unsigned32-requires c κs = search needs
 
--- src/descriptors.rt:94:9
 type-description-at-requires : tie.Need-type-description-at-requires
 type-description-at-requires c κs = search needs
 
--- src/descriptors.rt:91:5
 returns : tie.Need-returns
 returns c = c .type-description-at .ensures ∙ ap (λ (n : ℕ). lent (c .before .before .before .args .s .now) (typeDescription (c .before .before .before .args .s .now) (c .before .before .before .args .self) n)) (pattern (c .before .before .before .args .datatype) _ (c .before .before .before .fits .datatype) (c .before .unsigned32 .ensures))
 

@@ -9,53 +9,37 @@ use mathlib.Core.Path.{_∙_, ap}
 use borrow.Author.Needs.{needs}
 use Rattle.typelib.proofs.TypeLib.type_description_at.Statement.{statement}
 use Rattle.typelib.proofs.TypeLib.type_description_at.Tie as tie
-use Rattle.typelib.proofs.TypeLib.type_description_at.Reads as reads
-use Rattle.typelib.proofs.TypeLib.type_description_at.Lts as lts
-use Rattle.typelib.proofs.TypeLib.description_of.Reads as description-of-reads
-use Rattle.typelib.proofs.TypeLib.type_desc_at.Reads as type-desc-at-reads
-use Rattle.util.proofs.bits.Reads as bits-reads
 
--- src/descriptors.rt:101:13
 returns : tie.Need-returns
 returns c = lent-long _ _ (c .if1 .taken)
 
--- src/descriptors.rt:104:24
 bits-requires : tie.Need-bits-requires
 bits-requires c κs = search needs
 
--- src/descriptors.rt:104:24
 cast-code : tie.Need-cast-code
 cast-code c = search needs
 
--- src/descriptors.rt:105:13
 returns-2 : tie.Need-returns-2
 returns-2 c = lent-fits _ _ _ (c .before .before .if1 .left) (field-base _ _ _ _ (c .before .if2 .taken) (c .bits .ensures))
 
--- src/descriptors.rt:107:15
 type-desc-at-requires : tie.Need-type-desc-at-requires
 type-desc-at-requires c κs = search needs
 
--- src/descriptors.rt:108:31
 enum-known-words : tie.Need-enum-known-words
 enum-known-words c = search needs
 
--- src/descriptors.rt:109:21
 bits-requires-2 : tie.Need-bits-requires-2
 bits-requires-2 c κs = search needs
 
--- src/descriptors.rt:110:17
 description-of-requires : tie.Need-description-of-requires
 description-of-requires c κs = search needs
 
--- src/descriptors.rt:112:33
 enum-known-n : tie.Need-enum-known-n
 enum-known-n c = search needs
 
--- src/descriptors.rt:97:5
 returns-3 : tie.Need-returns-3
 returns-3 c = lent-fits _ _ _ (c .before .before .before .before .before .before .before .if1 .left) (field-entry _ _ _ _ (c .before .before .before .before .before .before .if2 .left) (bind-value _ _ _ _ (tells toldPair (c .before .before .before .words .given .1) (c .before .before .before .before .before .type-desc-at .ensures)) (c .description-of .ensures ∙ ap (λ (n : ℕ). descriptionOf (c .before .before .before .before .before .before .before .before .before .args .s .now) (c .before .before .before .before .before .before .before .before .before .args .self) n (c .before .before .before .words .given .0 .0 .second)) (c .before .bits2 .ensures))))
 
--- src/descriptors.rt:97:5
 returns-4 : tie.Need-returns-4
 returns-4 c = lent-fits _ _ _ (c .before .before .before .before .before .if1 .left) (field-entry _ _ _ _ (c .before .before .before .before .if2 .left) (bind-refused _ _ _ (tells toldPair (c .before .n .given .1) (c .before .before .before .type-desc-at .ensures))))
 

@@ -11,79 +11,55 @@ use mathlib.Core.Path.{_∙_, ap}
 use borrow.Author.Needs.{needs}
 use Rattle.typelib.proofs.iterators.name_entry.Statement.{statement}
 use Rattle.typelib.proofs.iterators.name_entry.Tie as tie
-use Rattle.typelib.proofs.iterators.name_entry.Reads as reads
-use Rattle.typelib.proofs.iterators.name_entry.Lts as lts
-use Rattle.records.proofs.answer.text.Reads as text-reads
-use Rattle.records.proofs.field.record_place.Reads as record-place-reads
-use Rattle.typelib.proofs.iterators.fixed_at.Reads as fixed-at-reads
-use Rattle.typelib.proofs.iterators.name_entry_from.Reads as name-entry-from-reads
-use Rattle.util.proofs.u8_or_zero.Reads as u8-or-zero-reads
 
--- src/iterators.rt:643:9
 returns : tie.Need-returns
 returns c = lent-long _ _ (c .if1 .taken)
 
--- src/iterators.rt:646:9
 returns-2 : tie.Need-returns-2
 returns-2 c = lent-fits _ _ _ (c .before .before .if1 .left) (name-before (c .before .before .before .before .args .s .now) (c .before .before .before .before .args .c) (c .if2 .taken))
 
--- src/iterators.rt:648:11
 fixed-at-requires : tie.Need-fixed-at-requires
 fixed-at-requires c κs = search needs
 
--- src/iterators.rt:650:43
 enum-told : tie.Need-enum-told
 enum-told c = search needs
 
--- src/iterators.rt:650:43
 add-u8-or-zero : tie.Need-add-u8-or-zero
 add-u8-or-zero c = let h = fixed (c .before .before .before .before .before .before .before .args .s .now) (c .before .before .before .before .before .before .before .args .c .pos) (c .before .before .before .before .before .before .before .args .c .end) 12 _ (tells toldPlace (c .enum-told .given .1) (c .before .before .fixed-at .ensures)) in omega arith
 
--- src/iterators.rt:650:23
 u8-or-zero-requires : tie.Need-u8-or-zero-requires
 u8-or-zero-requires c κs = search needs
 
--- src/iterators.rt:650:23
 cast-len : tie.Need-cast-len
 cast-len c = search needs
 
--- src/iterators.rt:651:58
 add-record-place : tie.Need-add-record-place
 add-record-place c = let h = fixed (c .before .before .before .before .before .before .before .before .args .s .now) (c .before .before .before .before .before .before .before .before .args .c .pos) (c .before .before .before .before .before .before .before .before .args .c .end) 12 _ (tells toldPlace (c .before .enum-told .given .1) (c .before .before .before .fixed-at .ensures)) in omega arith
 
--- src/iterators.rt:651:35
 record-place-requires : tie.Need-record-place-requires
 record-place-requires c κs = search needs
 
--- src/iterators.rt:651:19
 text-requires : tie.Need-text-requires
 text-requires c κs = search needs
 
--- src/iterators.rt:652:36
 enum-known-text : tie.Need-enum-known-text
 enum-known-text c = search needs
 
--- src/iterators.rt:652:68
 name-entry-from-requires : tie.Need-name-entry-from-requires
 name-entry-from-requires c κs = let h = fixed (c .before .before .before .before .before .before .before .before .before .before .before .before .before .args .s .now) (c .before .before .before .before .before .before .before .before .before .before .before .before .before .args .c .pos) (c .before .before .before .before .before .before .before .before .before .before .before .before .before .args .c .end) 12 _ (tells toldPlace (c .before .before .before .before .before .before .enum-told .given .1) (c .before .before .before .before .before .before .before .before .fixed-at .ensures)) in (omega arith, c .before .before .before .before .before .before .before .before .before .if2 .left)
 
--- src/iterators.rt:653:38
 enum-known-n : tie.Need-enum-known-n
 enum-known-n c = search needs
 
--- src/iterators.rt:656:30
 enum-known-n-2 : tie.Need-enum-known-n-2
 enum-known-n-2 c = search needs
 
--- src/iterators.rt:638:1
 returns-3 : tie.Need-returns-3
 returns-3 c = lent-fits _ _ _ (c .before .before .before .before .before .before .before .before .before .before .before .before .if1 .left) (name-some (c .before .before .before .before .before .before .before .before .before .before .before .before .before .before .args .s .now) (c .before .before .before .before .before .before .before .before .before .before .before .before .before .before .args .c) _ _ (c .before .before .before .before .before .before .before .before .before .before .if2 .left) (tells toldPlace (c .before .before .before .before .before .before .before .enum-told .given .1) (c .before .before .before .before .before .before .before .before .before .fixed-at .ensures)) (map-value _ _ _ _ (tells toldPlace (c .before .before .text2 .given .1) (c .before .before .before .before .text .ensures ∙ ap (textOf (c .before .before .before .before .before .before .before .before .before .before .before .before .before .before .args .s .now)) (c .before .before .before .before .before .record-place .ensures ∙ ap (λ (n : ℕ). recordPlace 0 (c .before .before .before .before .before .before .before .before .before .before .before .before .before .before .args .s .now) ((c .before .before .before .before .before .before .before .before .before .before .before .before .before .before .args .c .pos) + 12) n) (read-zero 1 (c .before .before .before .before .before .before .before .before .before .before .before .before .before .before .args .s .now) ((c .before .before .before .before .before .before .before .before .before .before .before .before .before .before .args .c .pos) + 8) _ (let h = fixed (c .before .before .before .before .before .before .before .before .before .before .before .before .before .before .args .s .now) (c .before .before .before .before .before .before .before .before .before .before .before .before .before .before .args .c .pos) (c .before .before .before .before .before .before .before .before .before .before .before .before .before .before .args .c .end) 12 _ (tells toldPlace (c .before .before .before .before .before .before .before .enum-told .given .1) (c .before .before .before .before .before .before .before .before .before .fixed-at .ensures)) in omega arith) (c .before .before .before .before .before .before .u8-or-zero .ensures))))) (c .name-entry-from .ensures)))
 
--- src/iterators.rt:638:1
 returns-4 : tie.Need-returns-4
 returns-4 c = lent-fits _ _ _ (c .before .before .before .before .before .before .before .before .before .before .before .if1 .left) (name-some (c .before .before .before .before .before .before .before .before .before .before .before .before .before .args .s .now) (c .before .before .before .before .before .before .before .before .before .before .before .before .before .args .c) _ _ (c .before .before .before .before .before .before .before .before .before .if2 .left) (tells toldPlace (c .before .before .before .before .before .before .enum-told .given .1) (c .before .before .before .before .before .before .before .before .fixed-at .ensures)) (map-refused _ _ _ (tells toldPlace (c .before .n .given .1) (c .before .before .before .text .ensures ∙ ap (textOf (c .before .before .before .before .before .before .before .before .before .before .before .before .before .args .s .now)) (c .before .before .before .before .record-place .ensures ∙ ap (λ (n : ℕ). recordPlace 0 (c .before .before .before .before .before .before .before .before .before .before .before .before .before .args .s .now) ((c .before .before .before .before .before .before .before .before .before .before .before .before .before .args .c .pos) + 12) n) (read-zero 1 (c .before .before .before .before .before .before .before .before .before .before .before .before .before .args .s .now) ((c .before .before .before .before .before .before .before .before .before .before .before .before .before .args .c .pos) + 8) _ (let h = fixed (c .before .before .before .before .before .before .before .before .before .before .before .before .before .args .s .now) (c .before .before .before .before .before .before .before .before .before .before .before .before .before .args .c .pos) (c .before .before .before .before .before .before .before .before .before .before .before .before .before .args .c .end) 12 _ (tells toldPlace (c .before .before .before .before .before .before .enum-told .given .1) (c .before .before .before .before .before .before .before .before .fixed-at .ensures)) in omega arith) (c .before .before .before .before .before .u8-or-zero .ensures)))))))
 
--- src/iterators.rt:638:1
 returns-5 : tie.Need-returns-5
 returns-5 c = lent-fits _ _ _ (c .before .before .before .before .before .before .if1 .left) (name-none (c .before .before .before .before .before .before .before .before .args .s .now) (c .before .before .before .before .before .before .before .before .args .c) _ (c .before .before .before .before .before .before .if1 .left) (c .before .before .before .before .if2 .left) (tells toldPlace (c .before .n2 .given .1) (c .before .before .before .fixed-at .ensures)))
 

@@ -8,54 +8,37 @@ use mathlib.Core.Path.{_≡_, _∙_, ap}
 use borrow.Author.Needs.{needs}
 use Rattle.typelib.proofs.iterators.name_entry_from.Statement.{statement}
 use Rattle.typelib.proofs.iterators.name_entry_from.Tie as tie
-use Rattle.typelib.proofs.iterators.name_entry_from.Reads as reads
-use Rattle.typelib.proofs.iterators.name_entry_from.Lts as lts
-use Rattle.util.proofs.signed32.Reads as signed32-reads
-use Rattle.util.proofs.u16_or_zero.Reads as u16-or-zero-reads
-use Rattle.util.proofs.u32_or_zero.Reads as u32-or-zero-reads
-use Rattle.util.proofs.u8_or_zero.Reads as u8-or-zero-reads
 
--- src/iterators.rt:666:17
 sub-t5 : tie.Need-sub-t5
 sub-t5 c = search needs
 
--- src/iterators.rt:668:34
 u32-or-zero-requires : tie.Need-u32-or-zero-requires
 u32-or-zero-requires c κs = search needs
 
--- src/iterators.rt:668:19
 signed32-requires : tie.Need-signed32-requires
 signed32-requires c κs = search needs
 
--- src/iterators.rt:669:56
 add-u32-or-zero : tie.Need-add-u32-or-zero
 add-u32-or-zero c = search needs
 
--- src/iterators.rt:669:35
 u32-or-zero-requires-2 : tie.Need-u32-or-zero-requires-2
 u32-or-zero-requires-2 c κs = search needs
 
--- src/iterators.rt:669:20
 signed32-requires-2 : tie.Need-signed32-requires-2
 signed32-requires-2 c κs = search needs
 
--- src/iterators.rt:670:36
 add-u8-or-zero : tie.Need-add-u8-or-zero
 add-u8-or-zero c = search needs
 
--- src/iterators.rt:670:16
 u8-or-zero-requires : tie.Need-u8-or-zero-requires
 u8-or-zero-requires c κs = search needs
 
--- src/iterators.rt:671:40
 add-u16-or-zero : tie.Need-add-u16-or-zero
 add-u16-or-zero c = search needs
 
--- src/iterators.rt:671:19
 u16-or-zero-requires : tie.Need-u16-or-zero-requires
 u16-or-zero-requires c κs = search needs
 
--- src/iterators.rt:660:1
 returns : tie.Need-returns
 returns c = let h = c .before .before .before .before .before .before .before .before .pre .0 in let e1 = toZ-ofZ w32 _ (record { sfits = c .before .before .before .before .signed32 .ok }) ∙ c .before .before .before .before .signed32 .ensures ∙ ap (toZ w32) (read-zero 4 (c .before .before .before .before .before .before .before .before .args .s .now) (c .before .before .before .before .before .before .before .before .args .c .pos) _ (omega arith) (c .before .before .before .before .before .u32-or-zero .ensures)) in let e2 = toZ-ofZ w32 _ (record { sfits = c .before .before .signed322 .ok }) ∙ c .before .before .signed322 .ensures ∙ ap (toZ w32) (read-zero 4 (c .before .before .before .before .before .before .before .before .args .s .now) ((c .before .before .before .before .before .before .before .before .args .c .pos) + 4) _ (omega arith) (c .before .before .before .u32-or-zero2 .ensures)) in let e3 = read-zero 1 (c .before .before .before .before .before .before .before .before .args .s .now) ((c .before .before .before .before .before .before .before .before .args .c .pos) + 9) _ (omega arith) (c .before .u8-or-zero .ensures) in let e4 = read-zero 2 (c .before .before .before .before .before .before .before .before .args .s .now) ((c .before .before .before .before .before .before .before .before .args .c .pos) + 10) _ (omega arith) (c .u16-or-zero .ensures) in cc (e1, e2, e3, e4)
 

@@ -7,39 +7,28 @@ use mathlib.Core.Path.{ap}
 use borrow.Author.Needs.{needs}
 use Rattle.typelib.proofs.iterators.NameCursor.step.Statement.{statement}
 use Rattle.typelib.proofs.iterators.NameCursor.step.Tie as tie
-use Rattle.typelib.proofs.iterators.NameCursor.step.Reads as reads
-use Rattle.typelib.proofs.iterators.NameCursor.step.Lts as lts
-use Rattle.typelib.proofs.iterators.name_entry.Reads as name-entry-reads
 
--- src/iterators.rt:406:15
 name-entry-requires : tie.Need-name-entry-requires
 name-entry-requires c κs = search needs
 
--- src/iterators.rt:407:36
 enum-known-entry : tie.Need-enum-known-entry
 enum-known-entry c = search needs
 
--- src/iterators.rt:412:41
 add-t8 : tie.Need-add-t8
 add-t8 c = let h = name-inside (c .before .before .before .before .before .before .before .args .s .now) (c .before .before .before .before .before .before .before .args .self) (c .before .before .before .entry .given .0 .0) (tells toldNameEntry (c .before .before .before .entry .given .1) (c .before .before .before .before .before .name-entry .ensures)) in omega arith
 
--- src/iterators.rt:412:40
 mul-t10 : tie.Need-mul-t10
 mul-t10 c = let h = name-inside (c .before .before .before .before .before .before .before .args .s .now) (c .before .before .before .before .before .before .before .args .self) (c .before .before .before .entry .given .0 .0) (tells toldNameEntry (c .before .before .before .entry .given .1) (c .before .before .before .before .before .name-entry .ensures)) in omega arith
 
--- src/iterators.rt:412:30
 add-t11 : tie.Need-add-t11
 add-t11 c = let h = name-inside (c .before .before .before .before .before .before .before .before .args .s .now) (c .before .before .before .before .before .before .before .before .args .self) (c .before .before .before .before .entry .given .0 .0) (tells toldNameEntry (c .before .before .before .before .entry .given .1) (c .before .before .before .before .before .before .name-entry .ensures)) in omega arith
 
--- src/iterators.rt:418:38
 enum-known-n : tie.Need-enum-known-n
 enum-known-n c = search needs
 
--- src/iterators.rt:403:5
 returns : tie.Need-returns
 returns c = ap (nameStepFrom (c .before .before .before .before .before .before .before .before .args .self)) (tells toldNameEntry (c .before .before .before .before .entry .given .1) (c .before .before .before .before .before .before .name-entry .ensures))
 
--- src/iterators.rt:403:5
 returns-2 : tie.Need-returns-2
 returns-2 c = ap (nameStepFrom (c .before .before .before .before .before .args .self)) (tells toldNameEntry (c .before .n .given .1) (c .before .before .before .name-entry .ensures))
 

@@ -1,0 +1,143 @@
+// The recorded bytes of one answer: a first byte, which is 0 for a value and else the number of the
+// refusal, and behind a 0 the value. That is one or two numbers, each at its own width with the lowest
+// byte first; or, of a text, a byte for its length and then its bytes.
+
+// An answer that is no text. Where there is no second number, its width is 0.
+pub struct Bytes {
+    pub first: u8,
+    pub width: usize,
+    pub number: u64,
+    pub second_width: usize,
+    pub second: u64,
+}
+
+pub fn number(width: usize, number: u64) -> Bytes {
+    numbers(width, number, 0, 0)
+}
+
+pub fn numbers(width: usize, number: u64, second_width: usize, second: u64) -> Bytes {
+    Bytes {
+        first: 0,
+        width,
+        number,
+        second_width,
+        second,
+    }
+}
+
+// The refusal of an answer whose value would have those widths.
+pub fn refusal(first: u8, width: usize, second_width: usize) -> Bytes {
+    Bytes {
+        first,
+        width,
+        number: 0,
+        second_width,
+        second: 0,
+    }
+}
+
+// Whether the bytes of the answer are recorded at `at`.
+pub fn are_at(recorded: &[u8], at: usize, answer: Bytes) -> bool {
+    let size = recorded.len();
+    if size <= at {
+        return false;
+    }
+    if recorded[at] != answer.first {
+        return false;
+    }
+    if answer.first != 0 {
+        return true;
+    }
+    let width = answer.width;
+    if size - at - 1 < width {
+        return false;
+    }
+    is_number_at(recorded, at + 1, width, answer.number)
+        && is_number_at(recorded, at + 1 + width, answer.second_width, answer.second)
+}
+
+fn is_number_at(recorded: &[u8], at: usize, width: usize, number: u64) -> bool {
+    let size = recorded.len();
+    if size < at {
+        return false;
+    }
+    if size - at < width {
+        return false;
+    }
+    let mut rest = number;
+    let mut i: usize = 0;
+    while i < width {
+        if recorded[at + i] != (rest % 256) as u8 {
+            return false;
+        }
+        rest = rest / 256;
+        i += 1;
+    }
+    true
+}
+
+// Whether the first `len` bytes of `text` are recorded at `at`, as a text.
+pub fn is_text_at(recorded: &[u8], at: usize, text: &[u8], len: usize) -> bool {
+    are_at(recorded, at, number(1, len as u64)) && are_letters_behind(recorded, at, text, len)
+}
+
+// Whether the first `len` bytes of `text` are recorded behind the two bytes at `at`.
+fn are_letters_behind(recorded: &[u8], at: usize, text: &[u8], len: usize) -> bool {
+    let size = recorded.len();
+    if size < at {
+        return false;
+    }
+    if size - at < 2 {
+        return false;
+    }
+    if size - at - 2 < len {
+        return false;
+    }
+    if text.len() < len {
+        return false;
+    }
+    let mut i: usize = 0;
+    while i < len {
+        if recorded[at + 2 + i] != text[i] {
+            return false;
+        }
+        i += 1;
+    }
+    true
+}
+
+// Where the answer that is recorded at `at` ends, if a value has those widths. It is taken from the
+// recorded bytes, so that a difference in one answer leaves the next ones to be compared.
+pub fn end(recorded: &[u8], at: usize, width: usize, second_width: usize) -> usize {
+    let size = recorded.len();
+    if size <= at {
+        return size;
+    }
+    if recorded[at] != 0 {
+        return at + 1;
+    }
+    let left = size - at - 1;
+    if left < width {
+        return size;
+    }
+    if left - width < second_width {
+        return size;
+    }
+    at + 1 + width + second_width
+}
+
+// Where the text that is recorded at `at` ends.
+pub fn text_end(recorded: &[u8], at: usize) -> usize {
+    let size = recorded.len();
+    if size <= at {
+        return size;
+    }
+    if size - at < 2 {
+        return size;
+    }
+    end(recorded, at, 1, wide(recorded[at + 1]))
+}
+
+fn wide(x: u8) -> usize {
+    x as usize
+}
