@@ -34,6 +34,17 @@ impl TypeInfoEntry {
         field::record_place(s, self.at, self.len, Self::SIZE)
     }
 
+    // The kind, in the low four bits of its field.
+    pub fn typekind(self, s: &[u8]) -> KindAnswer
+        ensures { λ r. ⌜ toldKind r ≡ map kindOf (map (bitsOf 0 4) (field typeInfoBase "typekind" (now (s .entry)) (self .at) (self .len))) ⌝ }
+    {
+        match field::field_bits8(s, self.at, self.len, Self::SIZE, 0x00, 0, 4) {
+            U8Answer::Value(raw) => KindAnswer::Value(TypeKind::from_raw(raw)),
+            U8Answer::Refused(n) => KindAnswer::Refused(n),
+        }
+    }
+
+    // The whole field: the kind in its low four bits, the alignment in bits 11 to 15.
     pub fn typekind_raw(self, s: &[u8]) -> U32Answer
         ensures { λ r. ⌜ toldU32 r ≡ field typeInfoBase "typekind" (now (s .entry)) (self .at) (self .len) ⌝ }
     {

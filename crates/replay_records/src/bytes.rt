@@ -11,11 +11,11 @@ pub struct Bytes {
     pub second: u64,
 }
 
-pub fn number(width: usize, number: u64) -> Bytes {
+pub(crate) fn number(width: usize, number: u64) -> Bytes {
     numbers(width, number, 0, 0)
 }
 
-pub fn numbers(width: usize, number: u64, second_width: usize, second: u64) -> Bytes {
+pub(crate) fn numbers(width: usize, number: u64, second_width: usize, second: u64) -> Bytes {
     Bytes {
         first: 0,
         width,
@@ -26,7 +26,7 @@ pub fn numbers(width: usize, number: u64, second_width: usize, second: u64) -> B
 }
 
 // The refusal of an answer whose value would have those widths.
-pub fn refusal(first: u8, width: usize, second_width: usize) -> Bytes {
+pub(crate) fn refusal(first: u8, width: usize, second_width: usize) -> Bytes {
     Bytes {
         first,
         width,
@@ -37,7 +37,7 @@ pub fn refusal(first: u8, width: usize, second_width: usize) -> Bytes {
 }
 
 // Whether the bytes of the answer are recorded at `at`.
-pub fn are_at(recorded: &[u8], at: usize, answer: Bytes) -> bool {
+pub(crate) fn are_at(recorded: &[u8], at: usize, answer: Bytes) -> bool {
     let size = recorded.len();
     if size <= at {
         return false;
@@ -77,7 +77,7 @@ fn is_number_at(recorded: &[u8], at: usize, width: usize, number: u64) -> bool {
 }
 
 // Whether the first `len` bytes of `text` are recorded at `at`, as a text.
-pub fn is_text_at(recorded: &[u8], at: usize, text: &[u8], len: usize) -> bool {
+pub(crate) fn is_text_at(recorded: &[u8], at: usize, text: &[u8], len: usize) -> bool {
     are_at(recorded, at, number(1, len as u64)) && are_letters_behind(recorded, at, text, len)
 }
 
@@ -108,7 +108,7 @@ fn are_letters_behind(recorded: &[u8], at: usize, text: &[u8], len: usize) -> bo
 
 // Where the answer that is recorded at `at` ends, if a value has those widths. It is taken from the
 // recorded bytes, so that a difference in one answer leaves the next ones to be compared.
-pub fn end(recorded: &[u8], at: usize, width: usize, second_width: usize) -> usize {
+pub(crate) fn end(recorded: &[u8], at: usize, width: usize, second_width: usize) -> usize {
     let size = recorded.len();
     if size <= at {
         return size;
@@ -127,7 +127,7 @@ pub fn end(recorded: &[u8], at: usize, width: usize, second_width: usize) -> usi
 }
 
 // Where the text that is recorded at `at` ends.
-pub fn text_end(recorded: &[u8], at: usize) -> usize {
+pub(crate) fn text_end(recorded: &[u8], at: usize) -> usize {
     let size = recorded.len();
     if size <= at {
         return size;

@@ -24,7 +24,7 @@ use records::var::VarAnswer;
 // Longer than any text that a method writes.
 pub const TEXT_ROOM: usize = 64;
 
-pub fn same_u8(recorded: &[u8], before: Progress, answer: U8Answer) -> Progress {
+pub(crate) fn same_u8(recorded: &[u8], before: Progress, answer: U8Answer) -> Progress {
     let answer = match answer {
         U8Answer::Value(x) => number(1, x as u64),
         U8Answer::Refused(n) => refusal(n, 1, 0),
@@ -32,7 +32,7 @@ pub fn same_u8(recorded: &[u8], before: Progress, answer: U8Answer) -> Progress 
     same(recorded, before, answer)
 }
 
-pub fn same_bool(recorded: &[u8], before: Progress, answer: BoolAnswer) -> Progress {
+pub(crate) fn same_bool(recorded: &[u8], before: Progress, answer: BoolAnswer) -> Progress {
     let answer = match answer {
         BoolAnswer::Value(x) => number(1, if x { 1 } else { 0 }),
         BoolAnswer::Refused(n) => refusal(n, 1, 0),
@@ -40,7 +40,7 @@ pub fn same_bool(recorded: &[u8], before: Progress, answer: BoolAnswer) -> Progr
     same(recorded, before, answer)
 }
 
-pub fn same_u16(recorded: &[u8], before: Progress, answer: U16Answer) -> Progress {
+pub(crate) fn same_u16(recorded: &[u8], before: Progress, answer: U16Answer) -> Progress {
     let answer = match answer {
         U16Answer::Value(x) => number(2, x as u64),
         U16Answer::Refused(n) => refusal(n, 2, 0),
@@ -48,7 +48,7 @@ pub fn same_u16(recorded: &[u8], before: Progress, answer: U16Answer) -> Progres
     same(recorded, before, answer)
 }
 
-pub fn same_i16(recorded: &[u8], before: Progress, answer: I16Answer) -> Progress {
+pub(crate) fn same_i16(recorded: &[u8], before: Progress, answer: I16Answer) -> Progress {
     let answer = match answer {
         I16Answer::Value(x) => number(2, i16_bits(x)),
         I16Answer::Refused(n) => refusal(n, 2, 0),
@@ -56,7 +56,7 @@ pub fn same_i16(recorded: &[u8], before: Progress, answer: I16Answer) -> Progres
     same(recorded, before, answer)
 }
 
-pub fn same_u32(recorded: &[u8], before: Progress, answer: U32Answer) -> Progress {
+pub(crate) fn same_u32(recorded: &[u8], before: Progress, answer: U32Answer) -> Progress {
     let answer = match answer {
         U32Answer::Value(x) => number(4, x as u64),
         U32Answer::Refused(n) => refusal(n, 4, 0),
@@ -64,7 +64,7 @@ pub fn same_u32(recorded: &[u8], before: Progress, answer: U32Answer) -> Progres
     same(recorded, before, answer)
 }
 
-pub fn same_i32(recorded: &[u8], before: Progress, answer: I32Answer) -> Progress {
+pub(crate) fn same_i32(recorded: &[u8], before: Progress, answer: I32Answer) -> Progress {
     let answer = match answer {
         I32Answer::Value(x) => number(4, i32_bits(x)),
         I32Answer::Refused(n) => refusal(n, 4, 0),
@@ -72,7 +72,7 @@ pub fn same_i32(recorded: &[u8], before: Progress, answer: I32Answer) -> Progres
     same(recorded, before, answer)
 }
 
-pub fn same_usize(recorded: &[u8], before: Progress, answer: UsizeAnswer) -> Progress {
+pub(crate) fn same_usize(recorded: &[u8], before: Progress, answer: UsizeAnswer) -> Progress {
     let answer = match answer {
         UsizeAnswer::Value(x) => number(8, x as u64),
         UsizeAnswer::Refused(n) => refusal(n, 8, 0),
@@ -80,7 +80,7 @@ pub fn same_usize(recorded: &[u8], before: Progress, answer: UsizeAnswer) -> Pro
     same(recorded, before, answer)
 }
 
-pub fn same_place(recorded: &[u8], before: Progress, answer: PlaceAnswer) -> Progress {
+pub(crate) fn same_place(recorded: &[u8], before: Progress, answer: PlaceAnswer) -> Progress {
     let answer = match answer {
         PlaceAnswer::Value(place) => numbers(8, place.at as u64, 8, place.len as u64),
         PlaceAnswer::Refused(n) => refusal(n, 8, 8),
@@ -89,7 +89,7 @@ pub fn same_place(recorded: &[u8], before: Progress, answer: PlaceAnswer) -> Pro
 }
 
 // A record that was answered is recorded as its place.
-pub fn same_guid(recorded: &[u8], before: Progress, answer: GuidAnswer) -> Progress {
+pub(crate) fn same_guid(recorded: &[u8], before: Progress, answer: GuidAnswer) -> Progress {
     let answer = match answer {
         GuidAnswer::Value(guid) => PlaceAnswer::Value(Place {
             at: guid.at,
@@ -100,7 +100,7 @@ pub fn same_guid(recorded: &[u8], before: Progress, answer: GuidAnswer) -> Progr
     same_place(recorded, before, answer)
 }
 
-pub fn same_var(recorded: &[u8], before: Progress, answer: VarAnswer) -> Progress {
+pub(crate) fn same_var(recorded: &[u8], before: Progress, answer: VarAnswer) -> Progress {
     let answer = match answer {
         VarAnswer::Value(var) => PlaceAnswer::Value(Place {
             at: var.at,
@@ -111,7 +111,7 @@ pub fn same_var(recorded: &[u8], before: Progress, answer: VarAnswer) -> Progres
     same_place(recorded, before, answer)
 }
 
-pub fn same_bound(recorded: &[u8], before: Progress, answer: BoundAnswer) -> Progress {
+pub(crate) fn same_bound(recorded: &[u8], before: Progress, answer: BoundAnswer) -> Progress {
     let answer = match answer {
         BoundAnswer::Value(bound) => numbers(
             4,
@@ -124,7 +124,7 @@ pub fn same_bound(recorded: &[u8], before: Progress, answer: BoundAnswer) -> Pro
     same(recorded, before, answer)
 }
 
-pub fn same_kind(recorded: &[u8], before: Progress, answer: KindAnswer) -> Progress {
+pub(crate) fn same_kind(recorded: &[u8], before: Progress, answer: KindAnswer) -> Progress {
     let answer = match answer {
         KindAnswer::Value(kind) => kind_bytes(kind),
         KindAnswer::Refused(n) => refusal(n, 1, 1),
@@ -133,7 +133,7 @@ pub fn same_kind(recorded: &[u8], before: Progress, answer: KindAnswer) -> Progr
 }
 
 // A text that was written to the front of `text`; the answer is its length.
-pub fn same_text(
+pub(crate) fn same_text(
     recorded: &[u8],
     before: Progress,
     text: &[u8; TEXT_ROOM],

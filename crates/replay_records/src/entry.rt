@@ -41,7 +41,7 @@ pub enum CountRead {
 }
 
 // The entry at that place of the file.
-pub fn read(s: &[u8], at: usize) -> EntryRead {
+pub(crate) fn read(s: &[u8], at: usize) -> EntryRead {
     let size = s.len();
     if size < at {
         return EntryRead::Malformed;
@@ -73,7 +73,7 @@ pub fn read(s: &[u8], at: usize) -> EntryRead {
 
 // How many entries the file holds. It is malformed where it does not hold as many as it says, holds
 // a byte behind them, or an entry of an unknown kind.
-pub fn count(s: &[u8]) -> CountRead {
+pub(crate) fn count(s: &[u8]) -> CountRead {
     let count = u32_at(s, 0);
     let mut at = FIRST;
     let mut number: u32 = 0;
@@ -95,7 +95,7 @@ pub fn count(s: &[u8]) -> CountRead {
 }
 
 // The `len` bytes of the file at `at`.
-pub fn part(s: &[u8], at: usize, len: usize) -> &[u8] {
+pub(crate) fn part(s: &[u8], at: usize, len: usize) -> &[u8] {
     records::answer::part(s, PlaceAnswer::Value(Place { at, len }))
 }
 

@@ -34,7 +34,7 @@ pub const COUNT: u8 = 12;
 
 // Compares all answers of an entry. What is left uncompared, of an unknown kind or a number that is
 // too large, counts as a difference at the entry's end.
-pub fn replay(lent: &[u8], recorded: &[u8], entry: Entry, before: Progress) -> Progress {
+pub(crate) fn replay(lent: &[u8], recorded: &[u8], entry: Entry, before: Progress) -> Progress {
     let at = entry.at;
     let len = entry.len;
     let number = entry.index;

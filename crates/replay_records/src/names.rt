@@ -2,7 +2,7 @@
 use crate::report::print;
 use std::num::wrapping_add_u8;
 
-pub fn print_kind(kind: u8) {
+pub(crate) fn print_kind(kind: u8) {
     print_name(
         b"guid guidentry param refrecord impinfo arraydesc impfile typeinfo var func vt_name typekind ",
         kind,
@@ -10,7 +10,7 @@ pub fn print_kind(kind: u8) {
 }
 
 // The number behind the last method's is that of the end of an entry's recorded bytes.
-pub fn print_method(kind: u8, method: u8) {
+pub(crate) fn print_method(kind: u8, method: u8) {
     match kind {
         0 => print_name(b"as_bytes data1 data2 data3 data4 text (end) ", method),
         1 => print_name(b"guid hreftype next_hash (end) ", method),

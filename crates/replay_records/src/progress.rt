@@ -22,7 +22,7 @@ pub struct Progress {
 // The most differences to print.
 const MOST_SHOWN: u64 = 10;
 
-pub fn start(kind: u8, shown: u64) -> Progress {
+pub(crate) fn start(kind: u8, shown: u64) -> Progress {
     Progress {
         kind,
         entry: 0,
@@ -36,7 +36,7 @@ pub fn start(kind: u8, shown: u64) -> Progress {
 }
 
 // The counts so far with those of a further kind.
-pub fn sum(so_far: Progress, of_kind: Progress) -> Progress {
+pub(crate) fn sum(so_far: Progress, of_kind: Progress) -> Progress {
     let mut both = of_kind;
     both.entries = wrapping_add_u64(so_far.entries, of_kind.entries);
     both.answers = wrapping_add_u64(so_far.answers, of_kind.answers);
@@ -45,7 +45,7 @@ pub fn sum(so_far: Progress, of_kind: Progress) -> Progress {
 }
 
 // Goes to the first answer of an entry.
-pub fn entered(before: Progress, entry: u32) -> Progress {
+pub(crate) fn entered(before: Progress, entry: u32) -> Progress {
     let mut progress = before;
     progress.entry = entry;
     progress.method = 0;
@@ -55,7 +55,7 @@ pub fn entered(before: Progress, entry: u32) -> Progress {
 }
 
 // Counts an answer, and goes to the next one, which starts at `next`.
-pub fn answered(before: Progress, is_same: bool, next: usize) -> Progress {
+pub(crate) fn answered(before: Progress, is_same: bool, next: usize) -> Progress {
     let mut progress = noted(before, is_same);
     progress.method = wrapping_add_u8(progress.method, 1);
     progress.at = next;
@@ -64,7 +64,7 @@ pub fn answered(before: Progress, is_same: bool, next: usize) -> Progress {
 }
 
 // Counts a difference where there is one, and prints it if it is among the first.
-pub fn noted(before: Progress, is_same: bool) -> Progress {
+pub(crate) fn noted(before: Progress, is_same: bool) -> Progress {
     let mut progress = before;
     if is_same {
         return progress;

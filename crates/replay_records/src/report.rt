@@ -4,14 +4,14 @@ use crate::progress::Progress;
 use libc::STDOUT_FILENO;
 
 // Why the file cannot be replayed.
-pub fn trouble(what: &[u8]) {
+pub(crate) fn trouble(what: &[u8]) {
     print(b"the file 'records' ");
     print(what);
     print(b"\n");
 }
 
 // That a method's answer is not the recorded one.
-pub fn difference(entry: u32, kind: u8, method: u8) {
+pub(crate) fn difference(entry: u32, kind: u8, method: u8) {
     print(b"entry ");
     io::print_decimal(STDOUT_FILENO, entry as u64);
     print(b": ");
@@ -21,14 +21,14 @@ pub fn difference(entry: u32, kind: u8, method: u8) {
     print(b" differs\n");
 }
 
-pub fn kind_line(of_kind: Progress) {
+pub(crate) fn kind_line(of_kind: Progress) {
     names::print_kind(of_kind.kind);
     print(b": ");
     counts_line(of_kind);
 }
 
 // The last line, of all kinds; and the end of each kind's own.
-pub fn counts_line(counts: Progress) {
+pub(crate) fn counts_line(counts: Progress) {
     io::print_decimal(STDOUT_FILENO, counts.entries);
     print(b" entries, ");
     io::print_decimal(STDOUT_FILENO, counts.answers);
@@ -37,6 +37,6 @@ pub fn counts_line(counts: Progress) {
     print(b" differences\n");
 }
 
-pub fn print(text: &[u8]) {
+pub(crate) fn print(text: &[u8]) {
     io::write_all(STDOUT_FILENO, text);
 }
