@@ -24,11 +24,11 @@ use Rattle.typelib.specs.declared.iterators.ParamCursor.{ParamCursor}
 use Rattle.typelib.specs.declared.iterators.NameCursor.{NameCursor}
 use Rattle.records.specs.declared.name.NameEntry.{NameEntry}
 use Rattle.typelib.specs.declared.iterators.TypeInfoCursor.{TypeInfoCursor}
-use Rattle.typelib.specs.TableLaws.{lent-fits, record-inside}
+use Rattle.typelib.specs.TableLaws.{lent-fits, record-start, record-inside}
 use Rattle.typelib.specs.Tables.{lent, segmentPlace, segmentOf}
 use Rattle.typelib.specs.TypeInfos.{typeinfoOf}
 use Rattle.typelib.specs.Cursors.{funcStepFrom, funcStep, varStepFrom, varStep, paramStepFrom, paramStep, guidStepFrom, guidStep, importStepFrom, importStep, impFileStepFrom, impFileStep}
-use Rattle.typelib.specs.Cursors.{Step, yielded, ended, sizeAt, recordAt, blockFrom, blockWith, skip, fixedAt, paramCursor, paramAt, impFileEntry, typeinfoStepFrom, typeinfoStep, nameEntryFrom, nameEntry}
+use Rattle.typelib.specs.Cursors.{Step, yielded, ended, sizeAt, recordAt, blockFrom, blockWith, skip, fixedAt, paramCursor, paramAt, impFileEntry, typeinfoStepFrom, typeinfoStep, nameEntryFrom, nameEntry, NameYield, entry, over, nameStepFrom, nameStep}
 
 -- ---- records that carry their length
 
@@ -308,6 +308,20 @@ module _ (s : List ℕ) (c : NameCursor) where
   unfolding nameEntry
   name-before h = rw (lt-ltb (c .pos) (c .start) h)
 
+  fixed-gone : length s ≤ c .pos → refused 9 ≡ fixedAt s (c .pos) (c .end) 12
+  unfolding fixedAt
+  fixed-gone h =
+      cond-elim (λ (r : Answer Place). refused 9 ≡ r) (ltb (c .end) (c .pos + 12)) (refused 9) _
+      (λ _. refl)
+      (λ _. rw (lt-ltb (length s) (c .pos + 12) (omega (arith, h))))
+
+  pub name-past : length s ≤ c .pos → refused 9 ≡ nameEntry s c
+  unfolding nameEntry
+  name-past h =
+      cond-elim (λ (r : Answer NameEntry). refused 9 ≡ r) (ltb (c .pos) (c .start)) (refused 9) _
+      (λ _. refl)
+      (λ _. rw (← fixed-gone h))
+
   pub name-none : (n : ℕ) → length s ≤ limit → c .start ≤ c .pos → refused n ≡ lent s (fixedAt s (c .pos) (c .end) 12) → refused n ≡ nameEntry s c
   unfolding nameEntry
   name-none n l h e =
@@ -317,38 +331,53 @@ module _ (s : List ℕ) (c : NameCursor) where
   unfolding nameEntry
   name-some p a h e f = rw (le-ltb (c .pos) (c .start) h, ← lent-value s p (fixedAt s (c .pos) (c .end) 12) e .is) f
 
--- a text's place is inside the list
-pub text-inside : (s : List ℕ) (at len : ℕ) (p : Place) → value p ≡ textAt s at len → p .at + p .len ≤ length s
-unfolding textOf
-text-inside s at len p = go (recordPlace 0 s at len) (record-inside 0 s at len)
-  where
-    go : (a : Answer Place) → ((q : Place) → value q ≡ a → q .at + q .len ≤ length s) → value p ≡ bind a (λ q. cond (utf8 (partOf s (value q))) (value q) (refused 9)) → p .at + p .len ≤ length s
-    go (value q) h =
-        cond-elim (λ (r : Answer Place). value p ≡ r → p .at + p .len ≤ length s) (utf8 (partOf s (value q))) (value q) (refused 9)
-        (λ _ e. h p e)
-        (λ _ e. let z : _≡_ {A = ℕ} 0 1 = cc in absurd (omega arith))
-    go (refused n) h = λ e. let z : _≡_ {A = ℕ} 0 1 = cc in absurd (omega arith)
+-- what holds of the place of any record at `at` holds of a text's place, and of the place in a name's entry
+module _ (s : List ℕ) (P : Place → Type 0) where
+  text-place : (at len : ℕ) → ((q : Place) → value q ≡ recordPlace 0 s at len → P q) → (p : Place) → value p ≡ textAt s at len → P p
+  unfolding textOf
+  text-place at len holds p = go (recordPlace 0 s at len) holds
+    where
+      go : (a : Answer Place) → ((q : Place) → value q ≡ a → P q) → value p ≡ bind a (λ q. cond (utf8 (partOf s (value q))) (value q) (refused 9)) → P p
+      go (value q) h =
+          cond-elim (λ (r : Answer Place). value p ≡ r → P p) (utf8 (partOf s (value q))) (value q) (refused 9)
+          (λ _ e. h p e)
+          (λ _ e. let z : _≡_ {A = ℕ} 0 1 = cc in absurd (omega arith))
+      go (refused n) h = λ e. let z : _≡_ {A = ℕ} 0 1 = cc in absurd (omega arith)
 
-map-inside : (s : List ℕ) (c : NameCursor) (e : NameEntry) (a : Answer Place) → ((q : Place) → value q ≡ a → q .at + q .len ≤ length s) → value e ≡ map (nameEntryFrom s c) a → e .text .at + e .text .len ≤ length s
-map-inside s c e (value q) h f =
-    let g : e ≡ nameEntryFrom s c q = cc in
-    let t : e .text ≡ q = ap (λ (x : NameEntry). x .text) g in
-    rw t (h q refl)
-map-inside s c e (refused n) h f = let z : _≡_ {A = ℕ} 0 1 = cc in absurd (omega arith)
+  module _ (c : NameCursor) (e : NameEntry) (holds : (q : Place) → value q ≡ recordPlace 0 s (c .pos + 12) (le 1 s (c .pos + 8)) → P q) where
+    map-place : (a : Answer Place) → ((q : Place) → value q ≡ a → P q) → value e ≡ map (nameEntryFrom s c) a → P (e .text)
+    map-place (value q) h f =
+        let g : e ≡ nameEntryFrom s c q = cc in
+        let t : e .text ≡ q = ap (λ (x : NameEntry). x .text) g in
+        rw t (h q refl)
+    map-place (refused n) h f = let z : _≡_ {A = ℕ} 0 1 = cc in absurd (omega arith)
 
-bind-entry : (s : List ℕ) (c : NameCursor) (e : NameEntry) (a : Answer Place) → value e ≡ bind a (λ _. map (nameEntryFrom s c) (textAt s (c .pos + 12) (le 1 s (c .pos + 8)))) → e .text .at + e .text .len ≤ length s
-bind-entry s c e (value q) f =
-    map-inside s c e (textAt s (c .pos + 12) (le 1 s (c .pos + 8))) (text-inside s (c .pos + 12) (le 1 s (c .pos + 8))) f
-bind-entry s c e (refused n) f = let z : _≡_ {A = ℕ} 0 1 = cc in absurd (omega arith)
+    bind-place : (a : Answer Place) → value e ≡ bind a (λ _. map (nameEntryFrom s c) (textAt s (c .pos + 12) (le 1 s (c .pos + 8)))) → P (e .text)
+    bind-place (value q) f =
+        map-place (textAt s (c .pos + 12) (le 1 s (c .pos + 8))) (text-place (c .pos + 12) (le 1 s (c .pos + 8)) holds) f
+    bind-place (refused n) f = let z : _≡_ {A = ℕ} 0 1 = cc in absurd (omega arith)
 
-pub name-inside : (s : List ℕ) (c : NameCursor) (e : NameEntry) → value e ≡ lent s (nameEntry s c) → e .text .at + e .text .len ≤ length s
-unfolding nameEntry
-name-inside s c e f =
-    cond-elim (λ (r : Answer NameEntry). value e ≡ r → e .text .at + e .text .len ≤ length s) (ltb (c .pos) (c .start)) (refused 9)
-    (bind (fixedAt s (c .pos) (c .end) 12) (λ _. map (nameEntryFrom s c) (textAt s (c .pos + 12) (le 1 s (c .pos + 8)))))
-    (λ _ g. let z : _≡_ {A = ℕ} 0 1 = cc in absurd (omega arith))
-    (λ _ g. bind-entry s c e (fixedAt s (c .pos) (c .end) 12) g)
-    (lent-value s e (nameEntry s c) f .is)
+    name-place : value e ≡ lent s (nameEntry s c) → P (e .text)
+    unfolding nameEntry
+    name-place f =
+        cond-elim (λ (r : Answer NameEntry). value e ≡ r → P (e .text)) (ltb (c .pos) (c .start)) (refused 9)
+        (bind (fixedAt s (c .pos) (c .end) 12) (λ _. map (nameEntryFrom s c) (textAt s (c .pos + 12) (le 1 s (c .pos + 8)))))
+        (λ _ g. let z : _≡_ {A = ℕ} 0 1 = cc in absurd (omega arith))
+        (λ _ g. bind-place (fixedAt s (c .pos) (c .end) 12) g)
+        (lent-value s e (nameEntry s c) f .is)
+
+-- a text's place is inside the list, and a name's starts right behind the intro
+module _ (s : List ℕ) where
+  pub text-inside : (at len : ℕ) (p : Place) → value p ≡ textAt s at len → p .at + p .len ≤ length s
+  text-inside at len = text-place s (λ p. p .at + p .len ≤ length s) at len (record-inside 0 s at len)
+
+  pub name-inside : (c : NameCursor) (e : NameEntry) → value e ≡ lent s (nameEntry s c) → e .text .at + e .text .len ≤ length s
+  name-inside c e =
+      name-place s (λ p. p .at + p .len ≤ length s) c e (record-inside 0 s (c .pos + 12) (le 1 s (c .pos + 8)))
+
+  pub name-start : (c : NameCursor) (e : NameEntry) → value e ≡ lent s (nameEntry s c) → e .text .at ≡ c .pos + 12
+  name-start c e =
+      name-place s (λ p. p .at ≡ c .pos + 12) c e (record-start 0 s (c .pos + 12) (le 1 s (c .pos + 8)))
 
 -- ---- a cursor that has yielded nothing
 
@@ -385,3 +414,10 @@ module _ (s : List ℕ) (n : ℕ) where
   pub impFile-again : (c d : ImpFileCursor) → ended n d ≡ impFileStep s c → ended n d ≡ impFileStep s d
   impFile-again c d e =
       e ∙ ap (impFileStep s) (sym (stays c (impFileStepFrom c) (λ x m b. yields m b _ _) (λ m. refl) (lent s (impFileEntry s (c .pos) (c .end))) n d e))
+
+  name-stays : (c d : NameCursor) (a : Answer NameEntry) → over n d ≡ nameStepFrom c a → d ≡ c
+  name-stays c d (value x) e = let z : _≡_ {A = ℕ} 0 1 = cc in absurd (omega arith)
+  name-stays c d (refused m) e = cc
+
+  pub name-again : (c d : NameCursor) → over n d ≡ nameStep s c → over n d ≡ nameStep s d
+  name-again c d e = e ∙ ap (nameStep s) (sym (name-stays c d (lent s (nameEntry s c)) e))

@@ -2,7 +2,7 @@
 use mathlib.Core.Path.{_≡_, refl, sym, _∙_, ap}
 use mathlib.Core.Bool.{cond}
 use mathlib.Core.List.{List}
-use Prim.Native.Nat.{ℕ, suc, _-_, _<_}
+use Prim.Native.Nat.{ℕ, zero, suc, _+_, _-_, _*_, _/_, _≤_, _<_}
 use native.Mathlib.Omega.{arith}
 use lib.Dec.{eqb}
 use lib.ListN.{length}
@@ -13,7 +13,11 @@ use Rattle.records.specs.declared.name.NameEntry.{NameEntry}
 use Rattle.records.specs.declared.answer.Place.{Place}
 use Rattle.records.specs.Answer.{Answer, value, refused}
 use Rattle.typelib.specs.declared.iterators.NameCursor.{NameCursor}
-use Rattle.typelib.specs.Cursors.{NameYield, entry, over, nameStep}
+use Rattle.typelib.specs.Cursors.{NameYield, entry, over, nameEntry, nameStepFrom, nameStep}
+use Rattle.typelib.specs.CursorLaws.{name-past, name-start}
+use Rattle.typelib.specs.Tables.{lent}
+use Rattle.typelib.specs.TableLaws.{lent-fits}
+use Rattle.records.specs.Record.{limit}
 use Rattle.typelib.specs.Members.{matchOr, matching, behind}
 
 -- ---- a turn of the search
@@ -40,6 +44,37 @@ pub match-none : (s : List ℕ) (href : ℕ) (c : NameCursor) → over 9 c ≡ m
 unfolding matching
 match-none s href c = refl
 
+-- ---- as many entries as the file has bytes are all of them
+
+-- a name takes the cursor forward
+ahead : (s : List ℕ) (c : NameCursor) (e : NameEntry) (d : NameCursor) → entry e d ≡ nameStep s c → c .pos < d .pos
+ahead s c e d = go (lent s (nameEntry s c)) (name-start s c)
+  where
+    go : (a : Answer NameEntry) → ((x : NameEntry) → value x ≡ a → x .text .at ≡ c .pos + 12) → entry e d ≡ nameStepFrom c a → c .pos < d .pos
+    go (value x) h f =
+        let q : d ≡ record { pos = x .text .at + (x .text .len + 3) / 4 * 4; end = c .end; start = c .start } = cc in
+        let p : d .pos ≡ x .text .at + (x .text .len + 3) / 4 * 4 = ap (λ (y : NameCursor). y .pos) q in
+        omega (arith, h x refl)
+    go (refused n) h f = let z : _≡_ {A = ℕ} 0 1 = cc in absurd (omega arith)
+
+module _ (s : List ℕ) (href : ℕ) (fits : length s ≤ limit) where
+  onward : (n m : ℕ) (pos : ℕ) → ((d : NameCursor) → pos < d .pos → matching n s href d ≡ matching m s href d) → (y : NameYield) → ((e : NameEntry) (d : NameCursor) → entry e d ≡ y → pos < d .pos) → matchOr (matching n s href) href y ≡ matchOr (matching m s href) href y
+  onward n m pos same (entry e d) h = rw (same d (h e d refl)) refl
+  onward n m pos same (over k d) h = refl
+
+  one-more : (n : ℕ) (c : NameCursor) → length s ≤ n + c .pos → matching (suc n) s href c ≡ matching n s href c
+  unfolding matching
+  one-more zero c h =
+      sym (ap (λ (a : Answer NameEntry). matchOr (matching 0 s href) href (nameStepFrom c a)) (lent-fits s (nameEntry s c) (refused 9) fits (name-past s c (omega (arith, h)))))
+  one-more (suc n) c h =
+      onward (suc n) n (c .pos) (λ d k. one-more n d (omega (arith, h, k))) (nameStep s c) (ahead s c)
+
+  pub enough : (k : ℕ) (c : NameCursor) → matching (length s + k) s href c ≡ matching (length s) s href c
+  enough zero c = ap (λ (m : ℕ). matching m s href c) (omega arith)
+  enough (suc k) c =
+      let q : length s + suc k ≡ suc (length s + k) = omega arith in
+      ap (λ (m : ℕ). matching m s href c) q ∙ one-more (length s + k) c (omega arith) ∙ enough k c
+
 -- ---- the k-th
 
 pub behind-here : (s : List ℕ) (href : ℕ) (e : NameEntry) (c : NameCursor) (y : NameYield) → entry e c ≡ y → value (e .text) ≡ behind 0 s href y
@@ -59,7 +94,7 @@ behind-first k s href e c y r h f = f ∙ ap (behind (suc k) s href) h
 
 behind-cases : (k : ℕ) (s : List ℕ) (href n : ℕ) (c : NameCursor) → refused n ≡ behind k s href (over n c)
 unfolding behind
-behind-cases Prim.Native.Nat.zero s href n c = refl
+behind-cases zero s href n c = refl
 behind-cases (suc k) s href n c = refl
 
 pub behind-over : (k : ℕ) (s : List ℕ) (href n : ℕ) (c : NameCursor) (y : NameYield) → over n c ≡ y → refused n ≡ behind k s href y

@@ -154,6 +154,14 @@ record-lent fixed s at len = go (ltb limit (length s))
     go true = refl
     go false = refl
 
+pub record-start : (fixed : ℕ) (s : List ℕ) (at len : ℕ) (p : Place) → value p ≡ recordPlace fixed s at len → p .at ≡ at
+record-start fixed s at len p =
+    held-elim (λ (h : Answer Unit). value p ≡ map (λ _. record { at = at; len = len }) h → p .at ≡ at) s at len fixed
+    (λ h e.
+    let q : p ≡ record { at = at; len = len } = cc in
+    ap (λ (x : Place). x .at) q)
+    (λ n e. let z : _≡_ {A = ℕ} 0 1 = cc in absurd (omega arith))
+
 pub record-inside : (fixed : ℕ) (s : List ℕ) (at len : ℕ) (p : Place) → value p ≡ recordPlace fixed s at len → p .at + p .len ≤ length s
 record-inside fixed s at len p =
     held-elim (λ (h : Answer Unit). value p ≡ map (λ _. record { at = at; len = len }) h → p .at + p .len ≤ length s) s at len fixed
