@@ -1,7 +1,7 @@
 """Compares the readings of whole libraries with the Rust's.
 
     python3 compare/libraries/run.py whole
-    python3 compare/libraries/run.py changed SEED SECONDS
+    python3 compare/libraries/run.py changed SEED COUNT
 
 The first reads every library of the folder that MSFT_TYPELIB_CORPUS names (../shared/corpus without
 it); the second reads libraries with words, bytes or bits changed and ends cut off, chosen by the seed.
@@ -15,7 +15,6 @@ import struct
 import subprocess
 import sys
 import tempfile
-import time
 
 ROOT = pathlib.Path(__file__).resolve().parents[2]
 DUMP = ROOT / "compare/oracle/target/release/dump_libraries"
@@ -61,15 +60,17 @@ def libraries(words):
     if words[0] == "whole":
         yield from files
         return
-    rng, end = random.Random(int(words[1])), time.time() + float(words[2])
+    rng = random.Random(int(words[1]))
     small = [f for f in files if len(f) < SMALL]
-    while time.time() < end:
+    for _ in range(int(words[2])):
         yield changed(rng, rng.choice(small))
 
 
 def program(folder):
-    """A copy of the crates with the program among them."""
+    """A copy of the crates, and of what is proved of them already, with the program among them."""
     shutil.copytree(ROOT / "crates", folder / "crates")
+    if (ROOT / "target").exists():
+        shutil.copytree(ROOT / "target", folder / "target")
     crate = folder / "crates/dump_libraries"
     shutil.copytree(ROOT / "compare/libraries/program", crate / "src")
     (crate / "data").mkdir()
