@@ -1,6 +1,6 @@
-//! Prints the reference's readings of the libraries in a file, one value to a line, in the order of
-//! compare/libraries/program. A place is its offset and length; `-` is a reading that yields nothing.
-//! The refusals of `parse` and `typeinfo` are document 01's numbers, by the case of the error.
+//! Prints the reference's readings of the libraries in a file, one value to a line. A place is its offset
+//! and length; `-` is a reading that yields nothing. The refusals of `parse` and `typeinfo` are document
+//! 01's numbers, by the case of the error.
 
 use std::io::Write;
 
