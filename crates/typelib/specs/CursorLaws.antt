@@ -366,11 +366,8 @@ module _ (s : List ℕ) (P : Place → Type 0) where
         (λ _ g. bind-place (fixedAt s (c .pos) (c .end) 12) g)
         (lent-value s e (nameEntry s c) f .is)
 
--- a text's place is inside the list, and a name's starts right behind the intro
+-- a name's place is inside the list, and starts right behind the intro
 module _ (s : List ℕ) where
-  pub text-inside : (at len : ℕ) (p : Place) → value p ≡ textAt s at len → p .at + p .len ≤ length s
-  text-inside at len = text-place s (λ p. p .at + p .len ≤ length s) at len (record-inside 0 s at len)
-
   pub name-inside : (c : NameCursor) (e : NameEntry) → value e ≡ lent s (nameEntry s c) → e .text .at + e .text .len ≤ length s
   name-inside c e =
       name-place s (λ p. p .at + p .len ≤ length s) c e (record-inside 0 s (c .pos + 12) (le 1 s (c .pos + 8)))

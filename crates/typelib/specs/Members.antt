@@ -20,7 +20,7 @@ matchOr go href (entry e c) = cond (eqb (ofZ w32 (e .hreftype)) href) (entry e c
 matchOr go href (over n c) = over n c
 
 -- The first entry with that hreftype, of at most so many. The readings below look at as many as the file has bytes, which
--- is all of them, since an entry takes at least twelve bytes.
+-- is all of them: `enough` of `MemberLaws`.
 unfoldable pub matching : ℕ → List ℕ → ℕ → NameCursor → NameYield
 matching zero s href c = over 9 c
 matching (suc n) s href c = matchOr (matching n s href) href (nameStep s c)

@@ -105,22 +105,18 @@ impl<'a> Dump<'a, '_> {
         self.place(f.filename_bytes());
     }
 
+    fn named(&mut self, name: &str, x: i32) {
+        self.word(name);
+        self.signed(x);
+    }
+
     fn description(&mut self, lib: &TypeLib<'a>, o: i32) {
         match lib.type_description(o) {
             None => self.none(),
             Some(TypeDescription::Base(v)) => self.number(v as u64),
-            Some(TypeDescription::Pointer(x)) => {
-                self.word("pointer");
-                self.signed(x)
-            }
-            Some(TypeDescription::SafeArray(x)) => {
-                self.word("safearray");
-                self.signed(x)
-            }
-            Some(TypeDescription::UserDefined(x)) => {
-                self.word("user");
-                self.signed(x)
-            }
+            Some(TypeDescription::Pointer(x)) => self.named("pointer", x),
+            Some(TypeDescription::SafeArray(x)) => self.named("safearray", x),
+            Some(TypeDescription::UserDefined(x)) => self.named("user", x),
             Some(TypeDescription::CArray(a)) => {
                 self.word("carray");
                 self.array(a)
