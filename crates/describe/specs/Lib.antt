@@ -1,0 +1,9 @@
+-- The description of a library, taken from its bytes alone.
+pub mod Values
+pub mod References
+pub mod Trees
+pub mod Constants
+pub mod Members
+pub mod Types
+pub mod Describe
+pub mod Call
