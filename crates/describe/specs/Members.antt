@@ -13,7 +13,7 @@ use Rattle.records.specs.declared.typeinfo.TypeInfoEntry.{TypeInfoEntry}
 use Rattle.records.specs.Answer.{Answer, value, refused, map, bind}
 use Rattle.records.specs.Attributes.{defaultValueOffset}
 use Rattle.records.specs.Layout.{parameterInfo, funcRecord, varRecord}
-use Rattle.records.specs.Record.{flagSet}
+use Rattle.records.specs.Record.{flagSet, signed32}
 use Rattle.typelib.specs.declared.TypeLib.{TypeLib}
 use Rattle.typelib.specs.declared.iterators.FuncCursor.{FuncCursor}
 use Rattle.typelib.specs.declared.iterators.VarCursor.{VarCursor}
@@ -57,8 +57,12 @@ module _ (s : List ℕ) (lib : TypeLib) where
   nameOf offset = found (bytesIn s (nameBytes s lib offset))
 
   -- a missing name offset makes the name missing
-  unfoldable pub nameBy : Answer ℕ → Option Bytes
-  nameBy offset = found (bind offset (λ x. bytesIn s (nameBytes s lib x)))
+  unfoldable pub nameBy : Answer ℤ → Option Bytes
+  nameBy offset = found (bind offset (λ x. bytesIn s (nameBytes s lib (ofZ w32 x))))
+
+  -- an identifier that a reading answers as a signed number
+  unfoldable pub memidBy : Answer ℤ → Option ℕ
+  memidBy memid = found (map (ofZ w32) memid)
 
   -- ---- parameters
 
@@ -95,8 +99,8 @@ module _ (s : List ℕ) (lib : TypeLib) where
   abbrev pub functionWith : TypeInfoEntry → ℕ → ℕ → Tree → List Parameter → Function
   functionWith ti i at datatype parameters =
       record {
-        memid = found (funcMemid s ti i);
-        name = nameBy (funcNameOffset s ti i);
+        memid = memidBy (signed32 (funcMemid s ti i));
+        name = nameBy (signed32 (funcNameOffset s ti i));
         datatype = datatype;
         flags = fieldOf funcRecord "Flags" s at;
         vtableOffset = fieldOf funcRecord "VtableOffset" s at;
@@ -125,8 +129,8 @@ module _ (s : List ℕ) (lib : TypeLib) where
   abbrev pub variableWith : TypeInfoEntry → ℕ → ℕ → Tree → Variable
   variableWith ti i at datatype =
       record {
-        memid = found (varMemid s ti i);
-        name = nameBy (varNameOffset s ti i);
+        memid = memidBy (signed32 (varMemid s ti i));
+        name = nameBy (signed32 (varNameOffset s ti i));
         datatype = datatype;
         flags = fieldOf varRecord "Flags" s at;
         varkind = fieldOf varRecord "VarKind" s at;

@@ -1,0 +1,163 @@
+-- The laws of emitters. Assumes nothing.
+use mathlib.Core.Path.{_≡_, refl, sym, ap, _∙_}
+use mathlib.Core.List.{List, [], _∷_, _++_, append-nil}
+use Prim.Native.Nat.{ℕ, zero, suc, _+_, _-_, _/_, _%_, _≤_, _<_}
+use native.Mathlib.Nat.{add-zero, add-suc, suc-add}
+use native.Mathlib.Omega.{arith}
+use lib.ListN.{length, getD, set, drop, take, length-append, length-take, drop-of-length-le}
+use native.Mathlib.Numerals.{add-one}
+use lib.Seq.{drop-cons, sets, length-sets, sets-eq, set-out, set-comm, slice, slice-cons}
+use Rattle.records.specs.Answer.{Answer, value, refused, map}
+use Rattle.records.specs.Record.{limit}
+use Rattle.description.specs.Description.{Bytes}
+use Rattle.description.specs.Format.{leBytes}
+use Rattle.emit.specs.declared.Put.{Put}
+use Rattle.emit.specs.declared.Put.the-variants.{At, Refused}
+use Rattle.emit.specs.Emit.{_▸_, advance, moved, Laid, Emitted}
+
+-- ---- runs of stores
+
+pub sets-append : (xs ys l : List ℕ) (i : ℕ) → sets l i (xs ++ ys) ≡ sets (sets l i xs) (i + length xs) ys
+sets-append [] ys l i = ap (λ (k : ℕ). sets l k ys) (sym (add-zero i))
+sets-append (x ∷ xs) ys l i =
+    sets-append xs ys (set l i x) (suc i)
+    ∙ ap (λ (k : ℕ). sets (sets (set l i x) (suc i) xs) k ys) (suc-add i (length xs) ∙ sym (add-suc i (length xs)))
+
+-- a store before a run, or after it
+pub set-sets : (xs l : List ℕ) (i j a : ℕ) → j < i → sets (set l j a) i xs ≡ set (sets l i xs) j a
+set-sets [] l i j a h = refl
+set-sets (x ∷ xs) l i j a h =
+    ap (λ (k : List ℕ). sets k (suc i) xs) (set-comm l j i a x (λ e. omega (arith, e)))
+    ∙ set-sets xs (set l i x) (suc i) j a (omega arith)
+
+-- two runs of which the first ends by the start of the second, in either order
+pub sets-comm : (xs ys l : List ℕ) (i j : ℕ) → i + length xs ≤ j → sets (sets l i xs) j ys ≡ sets (sets l j ys) i xs
+sets-comm [] ys l i j h = refl
+sets-comm (x ∷ xs) ys l i j h =
+    sets-comm xs ys (set l i x) (suc i) j (omega arith)
+    ∙ ap (λ (k : List ℕ). sets k (suc i) xs) (set-sets ys l j i x (omega arith))
+
+-- ---- places
+
+pub advance-none : (p : ℕ) → advance p 0 ≡ p
+unfolding advance
+advance-none p = omega arith
+
+pub advance-add : (p m n : ℕ) → advance (advance p m) n ≡ advance p (m + n)
+unfolding advance
+advance-add p m n = omega arith
+
+-- within the limit nothing is stopped
+pub advance-within : (p n : ℕ) → p + n ≤ limit → advance p n ≡ p + n
+unfolding advance
+advance-within p n h = omega arith
+
+-- ---- emissions
+
+-- nothing is emitted
+pub skip : (t : Put) (o : List ℕ) → Emitted (value []) t o t o
+skip (At p) o = record { moves = ap At (sym (advance-none p)); lays = λ h k. refl; keeps = refl }
+skip (Refused m) o = record { moves = refl; lays = tt; keeps = refl }
+
+pub moved-join : (x y : Answer Bytes) (t : Put) → moved (moved t x) y ≡ moved t (x ▸ y)
+moved-join (value a) (value b) (At p) = ap At (advance-add p (length a) (length b) ∙ ap (advance p) (sym (length-append a b)))
+moved-join (value a) (refused n) (At p) = refl
+moved-join (refused n) y (At p) = refl
+moved-join (value a) (value b) (Refused m) = refl
+moved-join (value a) (refused n) (Refused m) = refl
+moved-join (refused n) y (Refused m) = refl
+
+-- one emission, and another where it ended
+pub join : {x y : Answer Bytes} {t s r : Put} {o o₁ o₂ : List ℕ} → Emitted x t o s o₁ → Emitted y s o₁ r o₂ → Emitted (x ▸ y) t o r o₂
+join {x} {y} {t} {s} {r} {o} {o₁} {o₂} a b =
+    record {
+      moves = b .moves ∙ ap (λ (u : Put). moved u y) (a .moves) ∙ moved-join x y t;
+      lays = lays x y t (a .lays) (rw (a .moves) at (b .lays));
+      keeps = b .keeps ∙ a .keeps;
+    }
+  where
+    lays : (x y : Answer Bytes) (t : Put) → Laid t x o o₁ → Laid (moved t x) y o₁ o₂ → Laid t (x ▸ y) o o₂
+    lays (value a) (value b) (At p) f g = λ h k.
+        let h′ : p + length a + length b ≤ limit = omega (arith, h, length-append a b) in
+        let k′ : p + length a + length b ≤ length o = omega (arith, k, length-append a b) in
+        let q : advance p (length a) ≡ p + length a = advance-within p (length a) (omega arith) in
+        let e : o₁ ≡ sets o p a = f (omega arith) (omega arith) in
+        let l : length o₁ ≡ length o = ap length e ∙ length-sets o p a in
+        g (rw q h′) (rw q (omega (arith, k′, l))) ∙ rw (q, e) (sym (sets-append a b o p))
+    lays (value a) (refused n) (At p) f g = tt
+    lays (refused n) y (At p) f g = tt
+    lays (value a) (value b) (Refused m) f g = tt
+    lays (value a) (refused n) (Refused m) f g = tt
+    lays (refused n) y (Refused m) f g = tt
+
+-- what is emitted, by another name
+pub known : {x y : Answer Bytes} {t r : Put} {o o′ : List ℕ} → x ≡ y → Emitted x t o r o′ → Emitted y t o r o′
+known e h = rw e at h
+
+-- ---- emitters that look at the place
+
+-- the bytes are stored at p
+pub stored : {t : Put} {o o′ bs : List ℕ} {p n q : ℕ} → t ≡ At p → q ≡ advance p n → length bs ≡ n → o′ ≡ sets o p bs
+    → Emitted (value bs) t o (At q) o′
+stored {t} {o} {o′} {bs} {p} {n} {q} e f g h =
+    rw e (record { moves = ap At (f ∙ ap (advance p) (sym g)); lays = λ k l. h; keeps = ap length h ∙ length-sets o p bs })
+
+-- there is no room for them
+pub unstored : {t : Put} {o bs : List ℕ} {p n q : ℕ} → t ≡ At p → q ≡ advance p n → length bs ≡ n → length o < p + n
+    → Emitted (value bs) t o (At q) o
+unstored {t} {o} {bs} {p} {n} {q} e f g h =
+    rw e (record { moves = ap At (f ∙ ap (advance p) (sym g)); lays = λ k l. absurd (omega (arith, g)); keeps = refl })
+
+pub refused-already : {x : Answer Bytes} {t : Put} {o : List ℕ} {m : ℕ} → t ≡ Refused m → Emitted x t o (Refused m) o
+refused-already e = rw e (record { moves = refl; lays = tt; keeps = refl })
+
+pub refused-now : {t : Put} {o : List ℕ} {p n : ℕ} → t ≡ At p → Emitted (refused n) t o (Refused n) o
+refused-now e = rw e (record { moves = refl; lays = tt; keeps = refl })
+
+-- ---- a loop: what the rest of it, emitted from here, makes of the whole
+
+pub record Left (whole : Answer Bytes) (t₀ : Put) (o₀ : List ℕ) (rest : Answer Bytes) (t : Put) (o : List ℕ) : Type 0 where
+  pub finish : (r : Put) (o′ : List ℕ) → Emitted rest t o r o′ → Emitted whole t₀ o₀ r o′
+
+pub left-all : {x : Answer Bytes} {t : Put} {o : List ℕ} → Left x t o x t o
+left-all = record { finish = λ r o′ e. e }
+
+pub left-less : {whole rest a rest′ : Answer Bytes} {t₀ t t′ : Put} {o₀ o o′ : List ℕ}
+    → Left whole t₀ o₀ rest t o → Emitted a t o t′ o′ → rest ≡ a ▸ rest′ → Left whole t₀ o₀ rest′ t′ o′
+left-less {whole} {rest} {a} {rest′} {t₀} {t} {t′} {o₀} {o} {o′} l e q =
+    record { finish = λ r o″ f. l .finish r o″ (rw q (join e f)) }
+
+pub left-none : {whole rest : Answer Bytes} {t₀ t : Put} {o₀ o : List ℕ} → Left whole t₀ o₀ rest t o → rest ≡ value [] → Emitted whole t₀ o₀ t o
+left-none {whole} {rest} {t₀} {t} {o₀} {o} l q = l .finish t o (rw q (skip t o))
+
+-- ---- what a loop has stored, and what it has still to store
+
+-- a run from which one store is taken
+pub sets-turn : (l w : List ℕ) (at b : ℕ) (bs : List ℕ) → sets l at (b ∷ bs) ≡ w → sets (set l at b) (at + 1) bs ≡ w
+sets-turn l w at b bs e = let f : at + 1 ≡ suc at = omega arith in rw f e
+
+pub leBytes-more : (w n : ℕ) → 0 < w → leBytes w n ≡ n % 256 ∷ leBytes (w - 1) (n / 256)
+unfolding leBytes
+leBytes-more zero n h = absurd (omega arith)
+leBytes-more (suc w) n h = let e : suc w - 1 ≡ w = omega arith in rw e
+
+pub leBytes-none : (w n : ℕ) → w ≤ 0 → leBytes w n ≡ []
+unfolding leBytes
+leBytes-none zero n h = refl
+leBytes-none (suc w) n h = absurd (omega arith)
+
+pub drop-more : (l : List ℕ) (i : ℕ) → i < length l → drop i l ≡ getD l i 0 ∷ drop (i + 1) l
+drop-more l i h = rw (add-one i) (drop-cons l i 0 h)
+
+pub drop-none : (l : List ℕ) (i : ℕ) → length l ≤ i → drop i l ≡ []
+drop-none l i h = drop-of-length-le l {i = i} h
+
+-- a copy from which one store is taken
+pub copy-turn : (l w bytes : List ℕ) (at i : ℕ) → i < length bytes → sets l (at + i) (drop i bytes) ≡ w
+    → sets (set l (at + i) (getD bytes i 0)) (at + (i + 1)) (drop (i + 1) bytes) ≡ w
+copy-turn l w bytes at i h e =
+    let f : at + (i + 1) ≡ suc (at + i) = omega arith in
+    rw f (rw (drop-more bytes i h) at e)
+
+pub copy-done : (l w bytes : List ℕ) (at i : ℕ) → length bytes ≤ i → sets l (at + i) (drop i bytes) ≡ w → l ≡ w
+copy-done l w bytes at i h e = rw (drop-none bytes i h) at e

@@ -1,0 +1,3 @@
+-- What an emitter does.
+pub mod Emit
+pub mod Laws
