@@ -7,6 +7,7 @@ use native.Mathlib.Omega.{arith}
 use lib.ListN.{length, getD, set, drop, take, length-append, length-take, drop-of-length-le}
 use native.Mathlib.Numerals.{add-one}
 use lib.Seq.{drop-cons, sets, length-sets, sets-eq, set-out, set-comm, slice, slice-cons}
+use Rattle.util.specs.Read.{read, orZero, read-none}
 use Rattle.records.specs.Answer.{Answer, value, refused, map}
 use Rattle.records.specs.Record.{limit}
 use Rattle.description.specs.Description.{Bytes}
@@ -161,3 +162,9 @@ copy-turn l w bytes at i h e =
 
 pub copy-done : (l w bytes : List ℕ) (at i : ℕ) → length bytes ≤ i → sets l (at + i) (drop i bytes) ≡ w → l ≡ w
 copy-done l w bytes at i h e = rw (drop-none bytes i h) at e
+
+-- ---- numbers of the library
+
+-- a number that would start past the end
+pub past-end : (w : ℕ) (s : List ℕ) (at : ℕ) → 0 < w → length s < at → 0 ≡ orZero (read w s at)
+past-end w s at h k = ap orZero (read-none w s at (omega arith))

@@ -149,16 +149,37 @@ pub fn put_bytes(bytes: &[u8], out: &mut [u8], to: Put) -> Put
     }
 }
 
-// The two bytes of the library at `at`, or zeros where it ends before them.
-pub fn copy_u16(s: &[u8], at: usize, out: &mut [u8], to: Put) -> Put
-    ensures { λ r. ⌜ Emitted (value (leBytes 2 (orZero (read 2 (now (s .entry)) at)))) to (now (out .entry)) r (now (out .exit)) ⌝ }
+// The two bytes at `offset` of the record at `at`, or 0 where the library ends before them. (The sum
+// is made only where it cannot wrap.)
+pub fn half_at(s: &[u8], at: usize, offset: usize) -> u16
+    ensures { λ r. ⌜ r ≡ orZero (read 2 (now (s .entry)) (at + offset)) ⌝ }
 {
-    put_u16(out, to, util::u16_or_zero(s, at))
+    if has_room(s.len(), at, offset) {
+        util::u16_or_zero(s, at + offset)
+    } else {
+        0
+    }
 }
 
-// The four bytes of the library at `at`, or zeros where it ends before them.
-pub fn copy_u32(s: &[u8], at: usize, out: &mut [u8], to: Put) -> Put
-    ensures { λ r. ⌜ Emitted (value (leBytes 4 (orZero (read 4 (now (s .entry)) at)))) to (now (out .entry)) r (now (out .exit)) ⌝ }
+// The four bytes at `offset` of the record at `at`, or 0 where the library ends before them.
+pub fn word_at(s: &[u8], at: usize, offset: usize) -> u32
+    ensures { λ r. ⌜ r ≡ orZero (read 4 (now (s .entry)) (at + offset)) ⌝ }
 {
-    put_u32(out, to, util::u32_or_zero(s, at))
+    if has_room(s.len(), at, offset) {
+        util::u32_or_zero(s, at + offset)
+    } else {
+        0
+    }
+}
+
+pub fn copy_u16(s: &[u8], at: usize, offset: usize, out: &mut [u8], to: Put) -> Put
+    ensures { λ r. ⌜ Emitted (value (leBytes 2 (orZero (read 2 (now (s .entry)) (at + offset))))) to (now (out .entry)) r (now (out .exit)) ⌝ }
+{
+    put_u16(out, to, half_at(s, at, offset))
+}
+
+pub fn copy_u32(s: &[u8], at: usize, offset: usize, out: &mut [u8], to: Put) -> Put
+    ensures { λ r. ⌜ Emitted (value (leBytes 4 (orZero (read 4 (now (s .entry)) (at + offset))))) to (now (out .entry)) r (now (out .exit)) ⌝ }
+{
+    put_u32(out, to, word_at(s, at, offset))
 }
