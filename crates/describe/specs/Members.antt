@@ -51,6 +51,10 @@ unfoldable pub paramRecords : List ℕ → Answer ParamCursor → List Place
 paramRecords s (value c) = yields (paramStep s) (c .remaining) c
 paramRecords s (refused n) = []
 
+-- an identifier that a reading answers as a signed number
+unfoldable pub memidBy : Answer ℤ → Option ℕ
+memidBy memid = found (map (ofZ w32) memid)
+
 module _ (s : List ℕ) (lib : TypeLib) where
   -- the name at an offset, if there is one
   unfoldable pub nameOf : ℕ → Option Bytes
@@ -59,10 +63,6 @@ module _ (s : List ℕ) (lib : TypeLib) where
   -- a missing name offset makes the name missing
   unfoldable pub nameBy : Answer ℤ → Option Bytes
   nameBy offset = found (bind offset (λ x. bytesIn s (nameBytes s lib (ofZ w32 x))))
-
-  -- an identifier that a reading answers as a signed number
-  unfoldable pub memidBy : Answer ℤ → Option ℕ
-  memidBy memid = found (map (ofZ w32) memid)
 
   -- ---- parameters
 

@@ -1,0 +1,3 @@
+-- Laws that the emitters cite.
+pub mod PartLaws
+pub mod TreeLaws

@@ -1,0 +1,177 @@
+-- The bytes of `Parts` are those of the formats. Assumes nothing.
+use mathlib.Core.Path.{_≡_, refl, sym, ap, _∙_}
+use mathlib.Core.Bool.{Bool, true, false}
+use mathlib.Core.Option.{Option, some, none}
+use mathlib.Core.List.{List, [], _∷_, _++_}
+use Prim.Native.Nat.{ℕ, _+_, _/_, _%_, _^_}
+use native.Mathlib.Omega.{arith}
+use lib.IntN.{ℤ}
+use lib.ListN.{length}
+use borrow.Author.Tests.{eq-eqb, ne-eqb}
+use mir.Syntax.{w32}
+use mir.Val.{ofZ}
+use Rattle.util.specs.Read.{read, orZero}
+use Rattle.records.specs.declared.answer.Place.{Place}
+use Rattle.records.specs.declared.answer.PlaceAnswer.{PlaceAnswer}
+use Rattle.records.specs.declared.answer.PlaceAnswer.the-variants as place
+use Rattle.records.specs.declared.answer.I32Answer.{I32Answer}
+use Rattle.records.specs.declared.answer.I32Answer.the-variants as i32
+use Rattle.records.specs.Answer.{Answer, value, refused, map, bind}
+use Rattle.records.specs.Counted.{fileNameBytes}
+use Rattle.records.specs.Record.{partOf}
+use Rattle.records.specs.Told.{toldI32, toldPlace}
+use Rattle.typelib.specs.declared.TypeLib.{TypeLib}
+use Rattle.records.specs.declared.impfile.ImpFile.{ImpFile}
+use Rattle.records.specs.declared.impinfo.ImpInfo.{ImpInfo}
+use Rattle.typelib.specs.declared.references.ImpFileAnswer.{ImpFileAnswer}
+use Rattle.typelib.specs.declared.references.ImpFileAnswer.the-variants as impFile
+use Rattle.typelib.specs.declared.references.ResolvedAnswer.{ResolvedAnswer}
+use Rattle.typelib.specs.declared.references.ResolvedAnswer.the-variants as resolved
+use Rattle.typelib.specs.declared.references.ResolvedHreftype.{ResolvedHreftype}
+use Rattle.typelib.specs.Names.{guidPlace, nameBytes}
+use Rattle.typelib.specs.References.{Resolved, hrefResolved}
+use Rattle.typelib.specs.References.{internal as here, external}
+use Rattle.typelib.specs.Told.{toldImpFile, toldHreftype, toldResolved}
+use Rattle.description.specs.Format.{encode, opt, leBytes}
+use Rattle.description.specs.Description.{Bytes, ownIsGuid}
+use Rattle.description.specs.Sheet.{edition-one, u32, guid, name, own, file, bit, import, internal, reference}
+use Rattle.describe.specs.Values.{found, bytesIn, fieldOf}
+use Rattle.describe.specs.References.{guidOf, fileWith, fileOf, ownOf, importOf, referenceFrom, referenceOf}
+use Rattle.describe.specs.Members.{nameOf, nameBy, memidBy}
+use Rattle.emit.specs.declared.Put.{Put}
+use Rattle.emit.specs.Emit.{_▸_, Emitted}
+use Rattle.emit.specs.Laws.{known}
+use Rattle.sheet_trees.specs.Parts.{optPart, referenceBytes, internalBytes, ownBytes, fileBytes, importBytes}
+
+-- ---- parts that may be missing
+
+part-guid : (o : Option Bytes) → optPart 0 o ≡ encode (opt guid) o
+unfolding optPart opt guid leBytes
+part-guid none = refl
+part-guid (some bs) = refl
+
+part-name : (o : Option Bytes) → optPart 1 o ≡ encode (opt name) o
+unfolding optPart opt name
+part-name none = refl
+part-name (some bs) = refl
+
+module _ (s : List ℕ) where
+  pub part-some : (w : ℕ) {a : PlaceAnswer} {p : Place} {bs : Bytes} → a ≡ place.Value p → bs ≡ partOf s (value p)
+      → value (1 ∷ []) ▸ (value (leBytes w (length bs)) ▸ value bs) ≡ value (optPart w (found (bytesIn s (toldPlace a))))
+  unfolding optPart
+  part-some w {a} {p} {bs} e f = rw (e, f)
+
+  pub part-none : (w : ℕ) {a : PlaceAnswer} {n : ℕ} → a ≡ place.Refused n → value (0 ∷ []) ≡ value (optPart w (found (bytesIn s (toldPlace a))))
+  unfolding optPart
+  part-none w {a} {n} e = rw e
+
+  module _ (lib : TypeLib) where
+    pub guid-is : (offset : ℕ) (a : Answer Place) → a ≡ guidPlace s lib offset
+        → value (optPart 0 (found (bytesIn s a))) ≡ value (encode (opt guid) (guidOf s lib offset))
+    unfolding guidOf
+    guid-is offset a e = rw e (ap value (part-guid (found (bytesIn s (guidPlace s lib offset)))))
+
+    pub name-is : (offset : ℕ) (a : Answer Place) → a ≡ nameBytes s lib offset
+        → value (optPart 1 (found (bytesIn s a))) ≡ value (encode (opt name) (nameOf s lib offset))
+    unfolding nameOf
+    name-is offset a e = rw e (ap value (part-name (found (bytesIn s (nameBytes s lib offset)))))
+
+    pub name-by : {x : I32Answer} {z : ℤ} (a : Answer Place) → x ≡ i32.Value z → a ≡ nameBytes s lib (ofZ w32 z)
+        → value (optPart 1 (found (bytesIn s a))) ≡ value (encode (opt name) (nameBy s lib (toldI32 x)))
+    unfolding nameBy
+    name-by {x} {z} a f e = rw (e, f) (ap value (part-name (found (bytesIn s (nameBytes s lib (ofZ w32 z))))))
+
+    pub name-missing : {x : I32Answer} {n : ℕ} → x ≡ i32.Refused n → value (0 ∷ []) ≡ value (encode (opt name) (nameBy s lib (toldI32 x)))
+    unfolding nameBy opt
+    name-missing {x} {n} e = rw e
+
+pub memid-is : {x : I32Answer} {z : ℤ} {n : ℕ} → x ≡ i32.Value z → n ≡ ofZ w32 z
+    → value (1 ∷ []) ▸ value (leBytes 4 n) ≡ value (encode (opt u32) (memidBy (toldI32 x)))
+unfolding memidBy opt
+memid-is {x} {z} {n} e f = rw (e, f)
+
+pub memid-missing : {x : I32Answer} {n : ℕ} → x ≡ i32.Refused n → value (0 ∷ []) ≡ value (encode (opt u32) (memidBy (toldI32 x)))
+unfolding memidBy opt
+memid-missing {x} {n} e = rw e
+
+-- ---- references
+
+pub internal-is : (bit index : ℕ) → value (1 ∷ []) ▸ (value (leBytes 1 bit) ▸ value (leBytes 2 index)) ≡ value (internalBytes bit index)
+unfolding internalBytes
+internal-is bit index = refl
+
+module _ (s : List ℕ) (lib : TypeLib) where
+  own-true : (x : ℕ) (b : Bool) → b ≡ true → encode (opt guid) (guidOf s lib x) ≡ ownBytes b (ownOf s lib b x)
+  unfolding ownBytes
+  own-true x true e = refl
+  own-true x false e = absurd (let z : _≡_ {A = ℕ} 0 1 = cc in omega arith)
+
+  own-false : (x : ℕ) (b : Bool) → b ≡ false → leBytes 4 x ≡ ownBytes b (ownOf s lib b x)
+  unfolding ownBytes
+  own-false x true e = absurd (let z : _≡_ {A = ℕ} 0 1 = cc in omega arith)
+  own-false x false e = refl
+
+  pub own-guid : (flags x : ℕ) → flags / 0x10000 % 2 ≡ 1
+      → value (encode (opt guid) (guidOf s lib x)) ≡ value (ownBytes (ownIsGuid flags) (ownOf s lib (ownIsGuid flags) x))
+  own-guid flags x h = ap value (own-true x (ownIsGuid flags) (eq-eqb _ _ h))
+
+  pub own-word : (flags x : ℕ) → (flags / 0x10000 % 2 ≡ 1 → ⊥)
+      → value (leBytes 4 x) ≡ value (ownBytes (ownIsGuid flags) (ownOf s lib (ownIsGuid flags) x))
+  own-word flags x h = ap value (own-false x (ownIsGuid flags) (ne-eqb _ _ h))
+
+  pub file-some : (at : ℕ) {a : PlaceAnswer} {p : Place} {bs : Bytes} {offset : ℕ} → a ≡ place.Value p → bs ≡ partOf s (value p)
+      → offset ≡ orZero (read 4 s (at + 0))
+      → value (1 ∷ [])
+      ▸ (value (encode (opt guid) (guidOf s lib offset))
+      ▸ (value (leBytes 4 (orZero (read 4 s (at + 4))))
+      ▸ (value (leBytes 4 (orZero (read 4 s (at + 8))))
+      ▸ (value (leBytes 2 (length bs)) ▸ value bs))))
+      ≡ value (fileBytes s lib at (toldPlace a))
+  unfolding fileBytes file opt
+  file-some at {a} {p} {bs} {offset} e f g = rw (e, f, g)
+
+  pub file-none : (at : ℕ) {a : PlaceAnswer} {n : ℕ} → a ≡ place.Refused n → value (0 ∷ []) ≡ value (fileBytes s lib at (toldPlace a))
+  unfolding fileBytes opt
+  file-none at {a} {n} e = rw e
+
+  pub file-named : {a : ImpFileAnswer} {f : ImpFile} (name : Answer Place) → a ≡ impFile.Value f → name ≡ fileNameBytes s (f .at) (f .len)
+      → value (fileBytes s lib (f .at) name) ≡ value (encode (opt file) (fileOf s lib (toldImpFile a)))
+  unfolding fileBytes fileOf
+  file-named {a} {f} name e g = rw (e, g)
+
+  pub file-missing : {a : ImpFileAnswer} {n : ℕ} → a ≡ impFile.Refused n → value (0 ∷ []) ≡ value (encode (opt file) (fileOf s lib (toldImpFile a)))
+  unfolding fileOf opt
+  file-missing {a} {n} e = rw e
+
+  pub import-is : (b at : ℕ) (imp : Answer Place) {flags word : ℕ} → flags ≡ orZero (read 4 s (at + 0)) → word ≡ orZero (read 4 s (at + 8))
+      → value (2 ∷ [])
+      ▸ (value (leBytes 1 b)
+      ▸ (value (leBytes 4 flags)
+      ▸ (value (ownBytes (ownIsGuid flags) (ownOf s lib (ownIsGuid flags) word)) ▸ value (encode (opt file) (fileOf s lib imp)))))
+      ≡ value (importBytes (importOf s lib b at imp))
+  unfolding importBytes ownBytes reference import bit
+  import-is b at imp {flags} {word} e f = rw (e, f)
+
+  pub resolved-internal : (b : ℕ) (r : Resolved) {i : ℕ} → r ≡ here i → value (internalBytes b i) ≡ value (referenceBytes lib (referenceFrom s lib b (value r)))
+  unfolding internalBytes referenceBytes referenceFrom reference internal bit
+  resolved-internal b r {i} e = rw e
+
+  pub resolved-external : (b : ℕ) (r : Resolved) {p : Place} {imp : Answer Place} → r ≡ external p imp
+      → value (importBytes (importOf s lib b (p .at) imp)) ≡ value (referenceBytes lib (referenceFrom s lib b (value r)))
+  unfolding importBytes referenceBytes referenceFrom reference
+  resolved-external b r {p} {imp} e = rw e
+
+  -- n is the hreftype as the call was given it
+  module _ (h n : ℕ) {a : ResolvedAnswer} (e : n ≡ h) (k : toldResolved a ≡ hrefResolved s lib n) where
+    pub reference-some : {b : ℕ} {r : ResolvedHreftype} → b ≡ h / 2 ^ 24 % 2 ^ 1 → a ≡ resolved.Value r
+        → value (referenceBytes lib (referenceFrom s lib b (value (toldHreftype r)))) ≡ value (encode (reference edition-one (lib .count)) (referenceOf s lib h))
+    unfolding referenceBytes referenceOf
+    reference-some {b} {r} g l =
+        let m : value (toldHreftype r) ≡ hrefResolved s lib h = sym (ap toldResolved l) ∙ k ∙ ap (hrefResolved s lib) e in
+        rw (g, m)
+
+    pub reference-none : {m : ℕ} → a ≡ resolved.Refused m → value (0 ∷ []) ≡ value (encode (reference edition-one (lib .count)) (referenceOf s lib h))
+    unfolding referenceOf referenceFrom reference
+    reference-none {m} l =
+        let q : refused m ≡ hrefResolved s lib h = sym (ap toldResolved l) ∙ k ∙ ap (hrefResolved s lib) e in
+        rw (← q)

@@ -1,0 +1,130 @@
+-- A tree is its head, and then the tree under it. Assumes nothing.
+use mathlib.Core.Path.{_≡_, refl, sym, ap, _∙_}
+use mathlib.Core.Option.{Option, some, none}
+use mathlib.Core.List.{List, [], _∷_, _++_, append-nil}
+use Prim.Native.Nat.{ℕ, zero, suc, _+_, _-_, _≤_, _<_}
+use native.Mathlib.Nat.{add-zero}
+use native.Mathlib.Omega.{arith}
+use lib.ListN.{length}
+use mir.Syntax.{w32}
+use mir.Val.{ofZ}
+use Rattle.util.specs.Read.{read, orZero}
+use Rattle.records.specs.declared.types.TypeDescription.{TypeDescription}
+use Rattle.records.specs.declared.types.TypeDescription.the-variants as type
+use Rattle.records.specs.Answer.{Answer, value, refused, map}
+use Rattle.records.specs.Layout.{sizeOf, arrayDesc}
+use Rattle.typelib.specs.declared.TypeLib.{TypeLib}
+use Rattle.typelib.specs.Tables.{lent}
+use Rattle.typelib.specs.Descriptors.{typeDescription}
+use Rattle.description.specs.Format.{encode, leBytes, list, joined}
+use Rattle.description.specs.Description.{Bytes, Dimension, Tree}
+use Rattle.description.specs.Description.Tree.{nothing, base, pointer, safeArray, cArray, reference}
+use Rattle.description.specs.Sheet.{edition-one, u16, dimension, level, nested, tree}
+use Rattle.describe.specs.Values.{fieldOf}
+use Rattle.describe.specs.Trees.{dimensionsAt, dimensionsOf, treeFrom, nestedOf, treeOf}
+use Rattle.emit.specs.declared.Put.{Put}
+use Rattle.emit.specs.Emit.{_▸_, Emitted}
+use Rattle.emit.specs.Laws.{join, skip, known}
+use Rattle.sheet_trees.specs.declared.trees.Inner.{Inner}
+use Rattle.sheet_trees.specs.declared.trees.Inner.the-variants as inner
+use Rattle.sheet_trees.specs.Parts.{dimensionsBytes, arrayBytes, headBytes, innerOf, toldInner}
+
+-- ---- dimensions
+
+dimensions-length : (s : List ℕ) (at n : ℕ) → length (dimensionsAt s at n) ≡ n
+unfolding dimensionsAt
+dimensions-length s at zero = refl
+dimensions-length s at (suc n) = ap suc (dimensions-length s (at + 8) n)
+
+pub dimensions-none : (s : List ℕ) (at n : ℕ) → n ≤ 0 → value (dimensionsBytes s at n) ≡ value []
+unfolding dimensionsBytes dimensionsAt
+dimensions-none s at zero h = refl
+dimensions-none s at (suc n) h = absurd (omega arith)
+
+pub dimensions-more : (s : List ℕ) (at offset n : ℕ) → 0 < n
+    → value (dimensionsBytes s (at + offset) n)
+    ≡ (value (leBytes 4 (orZero (read 4 s (at + offset)))) ▸ value (leBytes 4 (orZero (read 4 s (at + (offset + 4))))))
+    ▸ value (dimensionsBytes s (at + (offset + 8)) (n - 1))
+unfolding dimensionsBytes dimensionsAt dimension
+dimensions-more s at offset zero h = absurd (omega arith)
+dimensions-more s at offset (suc n) h =
+    let e : suc n - 1 ≡ n = omega arith in
+    let f : at + offset + 0 ≡ at + offset = omega arith in
+    let g : at + offset + 4 ≡ at + (offset + 4) = omega arith in
+    let k : at + offset + 8 ≡ at + (offset + 8) = omega arith in
+    rw (e, f, g, k)
+
+pub array-is : (s : List ℕ) (at : ℕ) {n : ℕ} → n ≡ orZero (read 2 s (at + 4))
+    → value (4 ∷ []) ▸ (value (leBytes 2 n) ▸ value (dimensionsBytes s (at + 8) n)) ≡ value (arrayBytes s at)
+unfolding arrayBytes
+array-is s at {n} e = rw e
+
+-- ---- a tree
+
+module _ (s : List ℕ) (lib : TypeLib) where
+  abbrev bytes : ℕ → Answer Tree → Answer Bytes
+  bytes k = map (encode (nested edition-one (lib .count) k))
+
+  abbrev rest : ℕ → (ℕ → Answer Tree) → Option ℕ → Answer Bytes
+  rest k below none = value []
+  rest k below (some field) = bytes k (below field)
+
+  wrapped : (k : ℕ) (w : Tree → Tree) (head : Bytes)
+      → ((t : Tree) → encode (nested edition-one (lib .count) (suc k)) (w t) ≡ head ++ encode (nested edition-one (lib .count) k) t)
+      → (a : Answer Tree) → bytes (suc k) (map w a) ≡ value head ▸ bytes k a
+  wrapped k w head h (value t) = ap value (h t)
+  wrapped k w head h (refused n) = refl
+
+  array-tree : (k at : ℕ) (t : Tree)
+      → encode (nested edition-one (lib .count) (suc k)) (cArray (dimensionsOf s at) t) ≡ arrayBytes s at ++ encode (nested edition-one (lib .count) k) t
+  unfolding nested level arrayBytes dimensionsOf dimensionsBytes
+  array-tree k at t =
+      let n : ℕ = fieldOf arrayDesc "dimensions" s at in
+      let ds : List Dimension = dimensionsAt s (at + sizeOf arrayDesc) n in
+      ap (λ m. 4 ∷ ((leBytes 2 m ++ joined dimension ds) ++ encode (nested edition-one (lib .count) k) t)) (dimensions-length s (at + sizeOf arrayDesc) n)
+
+  laid : (k : ℕ) (below : ℕ → Answer Tree) (a : Answer TypeDescription)
+      → bytes (suc k) (treeFrom s lib below a) ≡ value (headBytes s lib a) ▸ rest k below (innerOf s a)
+  unfolding treeFrom headBytes innerOf nested level leBytes
+  laid k below (value (type.Base vt)) = refl
+  laid k below (value (type.Pointer x)) = wrapped k pointer (2 ∷ []) (λ t. refl) (below (ofZ w32 x))
+  laid k below (value (type.SafeArray x)) = wrapped k safeArray (3 ∷ []) (λ t. refl) (below (ofZ w32 x))
+  laid k below (value (type.CArray d)) =
+      wrapped k (cArray (dimensionsOf s (d .at))) (arrayBytes s (d .at)) (array-tree k (d .at)) (below (fieldOf arrayDesc "element type" s (d .at)))
+  laid k below (value (type.UserDefined x)) = ap value (sym (append-nil _))
+  laid k below (refused n) = refl
+
+  module _ (n field : ℕ) where
+    pub too-deep : {t r : Put} {o o′ : List ℕ} → n ≡ 0 → Emitted (refused 11) t o r o′ → Emitted (bytes n (nestedOf s lib n field)) t o r o′
+    unfolding nestedOf
+    too-deep e h = rw e h
+
+    module _ (some-left : n ≡ 0 → ⊥) {a : Answer TypeDescription} (e : a ≡ lent s (typeDescription s lib field)) where
+      step : bytes n (nestedOf s lib n field) ≡ value (headBytes s lib a) ▸ rest (n - 1) (nestedOf s lib (n - 1)) (innerOf s a)
+      unfolding nestedOf
+      step = by-levels n some-left
+        where
+          by-levels : (m : ℕ) → (m ≡ 0 → ⊥) → bytes m (nestedOf s lib m field) ≡ value (headBytes s lib a) ▸ rest (m - 1) (nestedOf s lib (m - 1)) (innerOf s a)
+          by-levels zero p = absurd (p refl)
+          by-levels (suc m) p = let f : suc m - 1 ≡ m = omega arith in rw (f, ← e) (laid m (nestedOf s lib m) a)
+
+      pub leaf-laid : {i : Inner} {t u : Put} {o o′ : List ℕ} → toldInner i ≡ innerOf s a → i ≡ inner.Nothing
+          → Emitted (value (headBytes s lib a)) t o u o′ → Emitted (bytes n (nestedOf s lib n field)) t o u o′
+      leaf-laid {i} {t} {u} {o} {o′} f g h =
+          let q : none ≡ innerOf s a = sym (ap toldInner g) ∙ f in
+          rw (step, ← q) (join h (skip u o′))
+
+      pub branch-laid : {i : Inner} {t u r : Put} {o o′ o″ : List ℕ} {below : ℕ} → toldInner i ≡ innerOf s a → i ≡ inner.Field below
+          → Emitted (value (headBytes s lib a)) t o u o′ → Emitted (bytes (n - 1) (nestedOf s lib (n - 1) below)) u o′ r o″
+          → Emitted (bytes n (nestedOf s lib n field)) t o r o″
+      branch-laid {i} {t} {u} {r} {o} {o′} {o″} {below} f g h k =
+          let q : some below ≡ innerOf s a = sym (ap toldInner g) ∙ f in
+          rw (step, ← q) (join h k)
+
+  pub whole-tree : (field : ℕ) → bytes 32 (treeOf s lib field) ≡ map (encode (tree edition-one (lib .count))) (treeOf s lib field)
+  unfolding tree
+  whole-tree field = by-answer (treeOf s lib field)
+    where
+      by-answer : (a : Answer Tree) → bytes 32 a ≡ map (encode (tree edition-one (lib .count))) a
+      by-answer (value t) = refl
+      by-answer (refused n) = refl

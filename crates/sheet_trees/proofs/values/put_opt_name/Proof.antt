@@ -1,0 +1,28 @@
+use Rattle.sheet_trees.proofs.PartLaws.{name-is}
+use Rattle.emit.specs.Laws.{known}
+use borrow.Author.Needs.{needs}
+use Rattle.sheet_trees.proofs.values.put_opt_name.Statement.{statement}
+use Rattle.sheet_trees.proofs.values.put_opt_name.Tie as tie
+use Rattle.sheet_trees.proofs.values.put_opt_name.Reads as reads
+use Rattle.sheet_trees.proofs.values.put_opt_name.Lts as lts
+use Rattle.sheet_trees.proofs.values.put_opt_part.Reads as put-opt-part-reads
+use Rattle.typelib.proofs.TypeLib.name_at.Reads as name-at-reads
+
+-- src/values.rt:44:21
+name-at-requires : tie.Need-name-at-requires
+name-at-requires c κs = search needs
+
+-- src/values.rt:44:5
+put-opt-part-requires : tie.Need-put-opt-part-requires
+put-opt-part-requires c κs = search needs
+
+-- src/values.rt:41:1
+same-length : tie.Need-same-length
+same-length c = search needs
+
+-- src/values.rt:41:1
+returns : tie.Need-returns
+returns c = known (name-is _ _ _ _ (c .before .before .before .before .name-at .ensures)) (c .before .before .put-opt-part .ensures)
+
+pub put-opt-name-spec : {M : Type 1} → statement M
+put-opt-name-spec = tie.close (tie.spec name-at-requires put-opt-part-requires same-length returns)

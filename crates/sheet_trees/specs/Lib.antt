@@ -1,0 +1,2 @@
+-- The bytes of the parts of a sheet.
+pub mod Parts

@@ -1,0 +1,115 @@
+// References.
+use crate::values;
+use emit::Put;
+use records::answer::PlaceAnswer;
+use records::impfile::ImpFile;
+use records::impinfo::ImpInfo;
+use typelib::TypeInfoIndex;
+use typelib::TypeLib;
+use typelib::references::ImpFileAnswer;
+use typelib::references::ResolvedAnswer;
+use typelib::references::ResolvedHreftype;
+ghost use mathlib.Core.Path.{_≡_};
+ghost use mathlib.Core.List.{_++_, _∷_};
+ghost use Rattle.records.specs.Answer.{value};
+ghost use Rattle.records.specs.Layout.{impInfo};
+ghost use Rattle.records.specs.Told.{toldPlace};
+ghost use Rattle.typelib.specs.Told.{toldImpFile, toldHreftype};
+ghost use Rattle.description.specs.Format.{encode, opt, leBytes};
+ghost use Rattle.description.specs.Description.{ownIsGuid};
+ghost use Rattle.description.specs.Sheet.{edition-one, own, file, reference};
+ghost use Rattle.describe.specs.References.{fileOf, fileAt, ownOf, importOf, referenceFrom, referenceOf};
+ghost use Rattle.emit.specs.Emit.{Emitted};
+ghost use Rattle.sheet_trees.specs.Parts.{ownBytes, fileBytes, importBytes, internalBytes, referenceBytes};
+
+// The reference of an hreftype.
+pub fn put_reference(s: &[u8], lib: TypeLib, href: u32, out: &mut [u8], to: Put) -> Put
+    ensures { λ r. ⌜ Emitted (value (encode (reference edition-one (lib .count)) (referenceOf (now (s .entry)) lib href))) to (now (out .entry)) r (now (out .exit)) ⌝ }
+{
+    let bit = util::bits(href, 24, 1);
+    match lib.resolve_hreftype_full(s, util::signed32(href)) {
+        ResolvedAnswer::Value(r) => put_resolved(s, lib, bit, r, out, to),
+        ResolvedAnswer::Refused(_) => emit::put_u8(out, to, 0),
+    }
+}
+
+// What it comes to, `bit` being its bit 0x01000000.
+fn put_resolved(
+    s: &[u8],
+    lib: TypeLib,
+    bit: u32,
+    resolved: ResolvedHreftype,
+    out: &mut [u8],
+    to: Put,
+) -> Put
+    ensures { λ r. ⌜ Emitted (value (referenceBytes lib (referenceFrom (now (s .entry)) lib bit (value (toldHreftype resolved))))) to (now (out .entry)) r (now (out .exit)) ⌝ }
+{
+    match resolved {
+        ResolvedHreftype::Internal(index) => put_internal(bit, index, out, to),
+        ResolvedHreftype::External(info, imp_file) => {
+            put_import(s, lib, bit, info, imp_file, out, to)
+        },
+    }
+}
+
+fn put_internal(bit: u32, index: TypeInfoIndex, out: &mut [u8], to: Put) -> Put
+    ensures { λ r. ⌜ Emitted (value (internalBytes bit (index .0))) to (now (out .entry)) r (now (out .exit)) ⌝ }
+{
+    let t = emit::put_u8(out, to, 1);
+    let t = emit::put_le(out, t, bit as u64, 1);
+    emit::put_le(out, t, index.0 as u64, 2)
+}
+
+fn put_import(
+    s: &[u8],
+    lib: TypeLib,
+    bit: u32,
+    info: ImpInfo,
+    imp_file: ImpFileAnswer,
+    out: &mut [u8],
+    to: Put,
+) -> Put
+    ensures { λ r. ⌜ Emitted (value (importBytes (importOf (now (s .entry)) lib bit (info .at) (toldImpFile «imp_file»)))) to (now (out .entry)) r (now (out .exit)) ⌝ }
+{
+    let flags = emit::word_at(s, info.at, 0x00);
+    let t = emit::put_u8(out, to, 2);
+    let t = emit::put_le(out, t, bit as u64, 1);
+    let t = emit::put_u32(out, t, flags);
+    let t = put_own(s, lib, flags, emit::word_at(s, info.at, 0x08), out, t);
+    put_opt_file(s, lib, imp_file, out, t)
+}
+
+// The word at 0x08 of an import record: a GUID's offset where its flags have 0x10000.
+fn put_own(s: &[u8], lib: TypeLib, flags: u32, word: u32, out: &mut [u8], to: Put) -> Put
+    ensures { λ r. ⌜ Emitted (value (ownBytes (ownIsGuid flags) (ownOf (now (s .entry)) lib (ownIsGuid flags) word))) to (now (out .entry)) r (now (out .exit)) ⌝ }
+{
+    if flags / 0x10000 % 2 == 1 {
+        values::put_opt_guid(s, lib, word, out, to)
+    } else {
+        emit::put_u32(out, to, word)
+    }
+}
+
+fn put_opt_file(s: &[u8], lib: TypeLib, imp_file: ImpFileAnswer, out: &mut [u8], to: Put) -> Put
+    ensures { λ r. ⌜ Emitted (value (encode (opt file) (fileOf (now (s .entry)) lib (toldImpFile «imp_file»)))) to (now (out .entry)) r (now (out .exit)) ⌝ }
+{
+    match imp_file {
+        ImpFileAnswer::Value(f) => put_file(s, lib, f, f.filename_bytes(s), out, to),
+        ImpFileAnswer::Refused(_) => emit::put_u8(out, to, 0),
+    }
+}
+
+fn put_file(s: &[u8], lib: TypeLib, f: ImpFile, name: PlaceAnswer, out: &mut [u8], to: Put) -> Put
+    ensures { λ r. ⌜ Emitted (value (fileBytes (now (s .entry)) lib (f .at) (toldPlace name))) to (now (out .entry)) r (now (out .exit)) ⌝ }
+{
+    let PlaceAnswer::Value(place) = name else {
+        return emit::put_u8(out, to, 0);
+    };
+    let bytes = records::answer::part(s, PlaceAnswer::Value(place));
+    let t = emit::put_u8(out, to, 1);
+    let t = values::put_opt_guid(s, lib, emit::word_at(s, f.at, 0x00), out, t);
+    let t = emit::copy_u32(s, f.at, 0x04, out, t);
+    let t = emit::copy_u32(s, f.at, 0x08, out, t);
+    let t = emit::put_le(out, t, bytes.len() as u64, 2);
+    emit::put_bytes(bytes, out, t)
+}

@@ -1,0 +1,66 @@
+// Numbers, names and GUIDs that may be missing: byte 0 for nothing, or byte 1 and the value.
+use emit::Put;
+use records::answer;
+use records::answer::I32Answer;
+use records::answer::PlaceAnswer;
+use typelib::TypeLib;
+ghost use mathlib.Core.Path.{_≡_};
+ghost use Rattle.records.specs.Answer.{value};
+ghost use Rattle.records.specs.Told.{toldI32, toldPlace};
+ghost use Rattle.description.specs.Format.{encode, opt};
+ghost use Rattle.description.specs.Sheet.{u32, guid, name};
+ghost use Rattle.describe.specs.Values.{found, bytesIn};
+ghost use Rattle.describe.specs.References.{guidOf};
+ghost use Rattle.describe.specs.Members.{nameOf, nameBy, memidBy};
+ghost use Rattle.emit.specs.Emit.{Emitted};
+ghost use Rattle.sheet_trees.specs.Parts.{optPart};
+
+// The bytes at a place of the library, behind their count in `width` bytes.
+pub fn put_opt_part(s: &[u8], place: PlaceAnswer, width: usize, out: &mut [u8], to: Put) -> Put
+    ensures { λ r. ⌜ Emitted (value (optPart width (found (bytesIn (now (s .entry)) (toldPlace place))))) to (now (out .entry)) r (now (out .exit)) ⌝ }
+{
+    match place {
+        PlaceAnswer::Value(p) => {
+            let bytes = answer::part(s, PlaceAnswer::Value(p));
+            let t = emit::put_u8(out, to, 1);
+            let t = emit::put_le(out, t, bytes.len() as u64, width);
+            emit::put_bytes(bytes, out, t)
+        }
+        PlaceAnswer::Refused(_) => emit::put_u8(out, to, 0),
+    }
+}
+
+// The GUID at an offset.
+pub fn put_opt_guid(s: &[u8], lib: TypeLib, offset: u32, out: &mut [u8], to: Put) -> Put
+    ensures { λ r. ⌜ Emitted (value (encode (opt guid) (guidOf (now (s .entry)) lib offset))) to (now (out .entry)) r (now (out .exit)) ⌝ }
+{
+    put_opt_part(s, lib.guid_at(s, offset), 0, out, to)
+}
+
+// The name at an offset.
+pub fn put_opt_name(s: &[u8], lib: TypeLib, offset: u32, out: &mut [u8], to: Put) -> Put
+    ensures { λ r. ⌜ Emitted (value (encode (opt name) (nameOf (now (s .entry)) lib offset))) to (now (out .entry)) r (now (out .exit)) ⌝ }
+{
+    put_opt_part(s, lib.name_at(s, offset), 1, out, to)
+}
+
+// A member's name: missing where its offset is.
+pub fn put_name_by(s: &[u8], lib: TypeLib, offset: I32Answer, out: &mut [u8], to: Put) -> Put
+    ensures { λ r. ⌜ Emitted (value (encode (opt name) (nameBy (now (s .entry)) lib (toldI32 offset)))) to (now (out .entry)) r (now (out .exit)) ⌝ }
+{
+    let I32Answer::Value(x) = offset else {
+        return emit::put_u8(out, to, 0);
+    };
+    put_opt_part(s, lib.name_bytes(s, x), 1, out, to)
+}
+
+// A member's identifier.
+pub fn put_opt_memid(memid: I32Answer, out: &mut [u8], to: Put) -> Put
+    ensures { λ r. ⌜ Emitted (value (encode (opt u32) (memidBy (toldI32 memid)))) to (now (out .entry)) r (now (out .exit)) ⌝ }
+{
+    let I32Answer::Value(x) = memid else {
+        return emit::put_u8(out, to, 0);
+    };
+    let t = emit::put_u8(out, to, 1);
+    emit::put_u32(out, t, util::unsigned32(x))
+}
