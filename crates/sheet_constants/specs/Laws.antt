@@ -1,0 +1,115 @@
+-- The bytes of a constant, as they are emitted. Assumes nothing.
+use mathlib.Core.Path.{_≡_, refl, sym, ap, _∙_}
+use mathlib.Core.Option.{some, none}
+use mathlib.Core.List.{List, [], _∷_, _++_, map}
+use Prim.Native.Nat.{ℕ, _^_, _≤_, _<_}
+use native.Mathlib.Omega.{arith}
+use lib.ListN.{length, getD, List·getD-map, List·getD-eq-default}
+use lib.IntN.{ℤ}
+use lib.Signed.{mag}
+use mir.Syntax.{Width}
+use mir.Val.{hbits, toZ, ofZ}
+use mir.ValLaws.{toZ-ofZ}
+use borrow.Author.Tests.{ne-eqb}
+use Rattle.records.specs.declared.answer.Place.{Place}
+use Rattle.records.specs.declared.types.ConstValue.{ConstValue}
+use Rattle.records.specs.Answer.{Answer, value, refused}
+use Rattle.records.specs.Record.{partOf}
+use Rattle.records.specs.Types.{vtOf}
+use Rattle.records.specs.TypesLaws.{getD-any}
+use Rattle.typelib.specs.declared.TypeLib.{TypeLib}
+use Rattle.typelib.specs.Constants.{constAt}
+use Rattle.description.specs.Format.{encode, leBytes, opt}
+use Rattle.description.specs.Description.{Bytes, Shape, shapes, shapeOf}
+use Rattle.description.specs.Sheet.{bit, constant}
+use Rattle.description.specs.ByteLayout.{opt-none, opt-some, null-bytes, text-bytes}
+use Rattle.describe.specs.Values.{found, bytesIn}
+use Rattle.describe.specs.Constants.{Content, contentOf, numberIn, placeIn, orEmpty, constantFrom, constantOf}
+use Rattle.sheet_constants.specs.declared.Shape.{Shape as Cell}
+use Rattle.sheet_constants.specs.Told.{toldShape}
+use Rattle.sheet_constants.specs.Bytes.{textBytes, valueBytes}
+
+-- the content of a constant that a match took apart
+pub content-is : {v w : ConstValue} → v ≡ w → contentOf w ≡ contentOf v
+content-is e = ap contentOf (sym e)
+
+-- the bits of a signed number that was read from its bits
+pub signed-digits : (w : Width) (x : ℤ) {n : ℕ} → mag x < 2 ^ hbits w → n ≡ ofZ w (toZ w (ofZ w x)) → Content.digits n ≡ Content.digits (ofZ w x)
+signed-digits w x h e = ap Content.digits (e ∙ ap (ofZ w) (toZ-ofZ w x (record { sfits = h })))
+
+-- ---- the shape of a code
+
+-- in the table, whose cells tell the shapes of the description
+pub shape-listed : (cells : List Cell) → map toldShape cells ≡ shapes → (code : ℕ) (d : Cell) → code < length shapes
+    → toldShape (getD cells code d) ≡ shapeOf code
+shape-listed cells e code d h =
+    sym (List·getD-map toldShape cells code d)
+    ∙ ap (λ l. getD l code (toldShape d)) e
+    ∙ getD-any shapes code (toldShape d) (Shape.number 4) h
+    ∙ rw (ne-eqb code 64 (λ k. omega arith))
+
+-- and beyond it
+pub shape-time : (code : ℕ) → code ≡ 64 → Shape.number 8 ≡ shapeOf code
+shape-time code e = rw e
+
+pub shape-raw : (code : ℕ) → length shapes ≤ code → (code ≡ 64 → ⊥) → Shape.number 4 ≡ shapeOf code
+shape-raw code h n = rw (ne-eqb code 64 n) (sym (List·getD-eq-default shapes (Shape.number 4) h))
+
+-- ---- a text
+
+pub null-laid : (s : List ℕ) {a : Answer Place} {n : ℕ} → a ≡ refused n → value (0 ∷ []) ≡ value (textBytes s a)
+unfolding textBytes
+null-laid s e = rw e (ap value (sym null-bytes))
+
+pub text-laid : (s : List ℕ) {a : Answer Place} {p : Place} {bs : Bytes} → a ≡ value p → bs ≡ partOf s (value p)
+    → value (1 ∷ (leBytes 4 (length bs) ++ bs)) ≡ value (textBytes s a)
+unfolding textBytes
+text-laid s {a} {p} {bs} e h = rw (e, h) (ap value (sym (text-bytes (partOf s (value p)))))
+
+-- ---- a value, by each shape
+
+-- the bytes at a place that was refused are none
+part-or-empty : (s : List ℕ) (a : Answer Place) → partOf s a ≡ orEmpty (bytesIn s a)
+unfolding partOf
+part-or-empty s (value p) = refl
+part-or-empty s (refused n) = refl
+
+module _ (s : List ℕ) (c : Content) {h : Shape} where
+  pub empty-laid : h ≡ Shape.empty → value [] ≡ value (valueBytes s c h)
+  unfolding valueBytes
+  empty-laid e = rw e
+
+  pub number-laid : {n w : ℕ} → h ≡ Shape.number w → n ≡ numberIn c → value (leBytes w n) ≡ value (valueBytes s c h)
+  unfolding valueBytes
+  number-laid e k = rw (e, k)
+
+  pub bit-laid : {n : ℕ} → h ≡ Shape.bit → n ≡ numberIn c → value (leBytes 1 n) ≡ value (valueBytes s c h)
+  unfolding valueBytes bit
+  bit-laid e k = rw (e, k)
+
+  pub octets-laid : {k : ℕ} {a : Answer Place} {bs : Bytes} → h ≡ Shape.octets k → a ≡ placeIn c → bs ≡ partOf s a
+      → value bs ≡ value (valueBytes s c h)
+  unfolding valueBytes
+  octets-laid {k} {a} {bs} e f g = rw (e, g, f) (ap value (part-or-empty s (placeIn c)))
+
+  pub shown-laid : {a : Answer Place} → h ≡ Shape.text → a ≡ placeIn c → value (textBytes s a) ≡ value (valueBytes s c h)
+  unfolding valueBytes textBytes
+  shown-laid e f = rw (e, f)
+
+-- ---- a constant
+
+pub constant-laid : (s : List ℕ) (v : ConstValue) {code : ℕ} {c : Content} {h : Shape}
+    → code ≡ vtOf v → c ≡ contentOf v → h ≡ shapeOf code
+    → value (leBytes 2 code ++ valueBytes s c h) ≡ value (encode constant (constantFrom s v))
+unfolding constant constantFrom valueBytes
+constant-laid s v e f g = rw (g, f, e)
+
+module _ (s : List ℕ) (lib : TypeLib) (word : ℕ) where
+  pub none-laid : {n : ℕ} → refused n ≡ constAt s lib word → value (0 ∷ []) ≡ value (encode (opt constant) (constantOf s lib word))
+  unfolding constantOf
+  none-laid e = rw (sym e) (ap value (sym (opt-none constant)))
+
+  pub some-laid : {v : ConstValue} → value v ≡ constAt s lib word
+      → value (1 ∷ encode constant (constantFrom s v)) ≡ value (encode (opt constant) (constantOf s lib word))
+  unfolding constantOf
+  some-laid {v} e = rw (sym e) (ap value (sym (opt-some constant (constantFrom s v))))

@@ -1,0 +1,4 @@
+-- The bytes of constants.
+pub mod Told
+pub mod Bytes
+pub mod Laws

@@ -1,0 +1,190 @@
+// Emitters of constants (document 01, "The sheet (added)"): the code of the case that was read, and then
+// the value, laid out by the shape that the code has.
+use emit::Put;
+use records::answer;
+use records::answer::Place;
+use records::answer::PlaceAnswer;
+use records::types::ConstValue;
+use typelib::TypeLib;
+use typelib::constants::ConstAnswer;
+ghost use mathlib.Core.Path.{_≡_};
+ghost use Rattle.records.specs.Answer.{value};
+ghost use Rattle.records.specs.Told.{toldPlace};
+ghost use Rattle.description.specs.Format.{encode, opt};
+ghost use Rattle.description.specs.Description.{shapeOf};
+ghost use Rattle.description.specs.Sheet.{constant};
+ghost use Rattle.describe.specs.Constants.{contentOf, numberIn, placeIn, constantFrom, constantOf};
+ghost use Rattle.emit.specs.Emit.{Emitted};
+ghost use Rattle.sheet_constants.specs.Told.{toldContent, toldShape};
+ghost use Rattle.sheet_constants.specs.Bytes.{textBytes, valueBytes};
+
+mod bits;
+
+// What a constant holds: nothing, a number by its bits, or a place in the lent bytes.
+pub enum Content {
+    Bare,
+    Digits(u64),
+    Span(Place),
+}
+
+// How a constant's value is laid out: no bytes, a number of so many bytes, a byte that is 0 or 1, so many
+// bytes as they are, or a text, which may be null.
+pub enum Shape {
+    Empty,
+    Number(usize),
+    Bit,
+    Octets(usize),
+    Text,
+}
+
+// The shapes of the codes 0 to 25.
+const SHAPES: [Shape; 26] = [
+    Shape::Empty,
+    Shape::Empty,
+    Shape::Number(2),
+    Shape::Number(4),
+    Shape::Number(4),
+    Shape::Number(8),
+    Shape::Number(8),
+    Shape::Number(8),
+    Shape::Text,
+    Shape::Number(4),
+    Shape::Number(4),
+    Shape::Bit,
+    Shape::Number(4),
+    Shape::Number(4),
+    Shape::Octets(16),
+    Shape::Number(4),
+    Shape::Number(1),
+    Shape::Number(1),
+    Shape::Number(2),
+    Shape::Number(4),
+    Shape::Number(8),
+    Shape::Number(8),
+    Shape::Number(4),
+    Shape::Number(4),
+    Shape::Empty,
+    Shape::Number(4),
+];
+
+// The shape of a code's value. Beyond the table a file time has eight bytes, and a code without a case of
+// its own four.
+pub fn shape_of(code: u16) -> Shape
+    ensures { λ r. ⌜ toldShape r ≡ shapeOf code ⌝ }
+{
+    if code < 26 {
+        return SHAPES[code as usize];
+    }
+    if code == 64 {
+        return Shape::Number(8);
+    }
+    Shape::Number(4)
+}
+
+// What a constant holds: a signed number by its two's complement, a float by its bits, a truth as 0 or 1.
+pub fn content_of(v: ConstValue) -> Content
+    ensures { λ r. ⌜ toldContent r ≡ contentOf v ⌝ }
+{
+    match v {
+        ConstValue::Empty => Content::Bare,
+        ConstValue::Null => Content::Bare,
+        ConstValue::I2(x) => Content::Digits(bits::unsigned16(x) as u64),
+        ConstValue::I4(x) => Content::Digits(util::unsigned32(x) as u64),
+        ConstValue::R4(x) => Content::Digits(bits::of_f32(x) as u64),
+        ConstValue::R4Nan(n) => Content::Digits(n as u64),
+        ConstValue::R8(x) => Content::Digits(bits::of_f64(x)),
+        ConstValue::R8Nan(n) => Content::Digits(n),
+        ConstValue::Cy(x) => Content::Digits(bits::unsigned64(x)),
+        ConstValue::Date(x) => Content::Digits(bits::of_f64(x)),
+        ConstValue::DateNan(n) => Content::Digits(n),
+        ConstValue::Bstr(p) => Content::Span(p),
+        ConstValue::NullBstr => Content::Bare,
+        ConstValue::Error(x) => Content::Digits(util::unsigned32(x) as u64),
+        ConstValue::Bool(b) => Content::Digits(bits::of_bool(b)),
+        ConstValue::I1(x) => Content::Digits(bits::unsigned8(x) as u64),
+        ConstValue::UI1(x) => Content::Digits(x as u64),
+        ConstValue::UI2(x) => Content::Digits(x as u64),
+        ConstValue::UI4(x) => Content::Digits(x as u64),
+        ConstValue::I8(x) => Content::Digits(bits::unsigned64(x)),
+        ConstValue::UI8(x) => Content::Digits(x),
+        ConstValue::Int(x) => Content::Digits(util::unsigned32(x) as u64),
+        ConstValue::UInt(x) => Content::Digits(x as u64),
+        ConstValue::Void => Content::Bare,
+        ConstValue::Hresult(x) => Content::Digits(util::unsigned32(x) as u64),
+        ConstValue::Decimal(p) => Content::Span(p),
+        ConstValue::Filetime(x) => Content::Digits(x),
+        ConstValue::Raw { vt: _, bits: x } => Content::Digits(util::unsigned32(x) as u64),
+    }
+}
+
+// The number of a content, 0 where it is none.
+fn number_in(content: Content) -> u64
+    ensures { λ r. ⌜ r ≡ numberIn (toldContent content) ⌝ }
+{
+    match content {
+        Content::Bare => 0,
+        Content::Digits(n) => n,
+        Content::Span(_) => 0,
+    }
+}
+
+// The place of a content, refusal 9 where it is none.
+fn place_in(content: Content) -> PlaceAnswer
+    ensures { λ r. ⌜ toldPlace r ≡ placeIn (toldContent content) ⌝ }
+{
+    match content {
+        Content::Bare => PlaceAnswer::Refused(9),
+        Content::Digits(_) => PlaceAnswer::Refused(9),
+        Content::Span(p) => PlaceAnswer::Value(p),
+    }
+}
+
+// A text: byte 0 for null, or byte 1, the length and the bytes.
+fn put_text(s: &[u8], place: PlaceAnswer, out: &mut [u8], to: Put) -> Put
+    ensures { λ r. ⌜ Emitted (value (textBytes (now (s .entry)) (toldPlace place))) to (now (out .entry)) r (now (out .exit)) ⌝ }
+{
+    match place {
+        PlaceAnswer::Value(p) => {
+            let bytes = answer::part(s, PlaceAnswer::Value(p));
+            let t = emit::put_u8(out, to, 1);
+            let t = emit::put_le(out, t, bytes.len() as u64, 4);
+            emit::put_bytes(bytes, out, t)
+        }
+        PlaceAnswer::Refused(_) => emit::put_u8(out, to, 0),
+    }
+}
+
+// The value of a content by a shape.
+fn put_value(s: &[u8], content: Content, shape: Shape, out: &mut [u8], to: Put) -> Put
+    ensures { λ r. ⌜ Emitted (value (valueBytes (now (s .entry)) (toldContent content) (toldShape shape))) to (now (out .entry)) r (now (out .exit)) ⌝ }
+{
+    match shape {
+        Shape::Empty => to,
+        Shape::Number(width) => emit::put_le(out, to, number_in(content), width),
+        Shape::Bit => emit::put_le(out, to, number_in(content), 1),
+        Shape::Octets(_) => emit::put_bytes(answer::part(s, place_in(content)), out, to),
+        Shape::Text => put_text(s, place_in(content), out, to),
+    }
+}
+
+// A constant: its code, and its value by the code's shape.
+pub fn put_constant(s: &[u8], v: ConstValue, out: &mut [u8], to: Put) -> Put
+    ensures { λ r. ⌜ Emitted (value (encode constant (constantFrom (now (s .entry)) v))) to (now (out .entry)) r (now (out .exit)) ⌝ }
+{
+    let code = v.vt();
+    let t = emit::put_u16(out, to, code);
+    put_value(s, content_of(v), shape_of(code), out, t)
+}
+
+// The constant that a record's word is or names: byte 0 where there is none, or byte 1 and the constant.
+pub fn put_opt_constant(s: &[u8], lib: TypeLib, word: u32, out: &mut [u8], to: Put) -> Put
+    ensures { λ r. ⌜ Emitted (value (encode (opt constant) (constantOf (now (s .entry)) lib word))) to (now (out .entry)) r (now (out .exit)) ⌝ }
+{
+    match lib.const_at(s, word) {
+        ConstAnswer::Value(v) => {
+            let t = emit::put_u8(out, to, 1);
+            put_constant(s, v, out, t)
+        }
+        ConstAnswer::Refused(_) => emit::put_u8(out, to, 0),
+    }
+}
