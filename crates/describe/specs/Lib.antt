@@ -7,3 +7,5 @@ pub mod Members
 pub mod Types
 pub mod Describe
 pub mod Call
+pub mod FieldLaws
+pub mod Edges
