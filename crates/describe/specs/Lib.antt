@@ -9,3 +9,5 @@ pub mod Describe
 pub mod Call
 pub mod FieldLaws
 pub mod Edges
+pub mod Answers
+pub mod FitValues
