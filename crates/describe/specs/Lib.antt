@@ -11,3 +11,4 @@ pub mod FieldLaws
 pub mod Edges
 pub mod Answers
 pub mod FitValues
+pub mod FitConstants

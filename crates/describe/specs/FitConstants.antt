@@ -1,0 +1,173 @@
+-- Constants that are taken from bytes fit the sheet. Assumes nothing.
+use mathlib.Core.Path.{_≡_, refl, sym, _∙_, ap}
+use mathlib.Core.Bool.{Bool, true, false, cond, not, _&&_}
+use mathlib.Core.Option.{Option, some, none}
+use mathlib.Core.List.{List, [], _∷_, map}
+use Prim.Native.Nat.{ℕ, zero, suc, _+_, _*_, _%_, _^_, _≤_, _<_}
+use native.Mathlib.Nat.{mod-lt, pow-le-pow-right, lt-of-lt-of-le, add-suc}
+use native.Mathlib.Omega.{arith}
+use lib.Dec.{T, leb, eqb, lit<}
+use lib.Ieee.{Format, binary32, binary64, toBits, top}
+use lib.ListN.{length, getD}
+use lib.Pow.{pow-pos}
+use borrow.Author.Tests.{leb-false, eqb-true, ne-eqb}
+use mir.Syntax.{Width, w8, w16, w32, w64}
+use mir.Val.{bits, toZ, ofZ}
+use mir.ValLaws.{ofZ-toZ}
+use Rattle.util.specs.Read.{le, le-lt, cond-elim}
+use Rattle.util.specs.Real.{Real, number, nan, realOf, bits-back}
+use Rattle.util.specs.Real as real
+use Rattle.records.specs.declared.answer.Place.{Place}
+use Rattle.records.specs.declared.types.ConstValue.{ConstValue}
+use Rattle.records.specs.declared.types.ConstValue.the-variants as const
+use Rattle.records.specs.Answer.{Answer, value, refused}
+use Rattle.records.specs.Record.{bitsOf, partOf}
+use Rattle.records.specs.Types.{vtOf}
+use Rattle.typelib.specs.declared.TypeLib.{TypeLib}
+use Rattle.typelib.specs.Tables.{negative, tablePlace}
+use Rattle.typelib.specs.TableLaws.{found as found-place}
+use Rattle.typelib.specs.Constants.{Case, select, low, r4As, r8As, dateAs, constantOf, among, inlineCodes, inlineCode, inlineOf, storedWidth, textBehind, valueAt, valueBehind, storedAt, constAt}
+use Rattle.description.specs.Format.{Fits, Each, IfAny, opt, counted}
+use Rattle.description.specs.Format.IfAny.{missing}
+use Rattle.description.specs.Format.IfAny.{found as present}
+use Rattle.description.specs.Description.{Shape, shapes, shapeOf}
+use Rattle.description.specs.Sheet.{u32, constant}
+use Rattle.description.specs.Sheet as sheet
+use Rattle.description.specs.Fit.{bit-fits, opt-fits}
+use Rattle.describe.specs.FieldLaws.{Octets}
+use Rattle.describe.specs.Answers.{IfValue, gives, refuses, told, anything, answers-bind, answers-map, answers-lent, if-found}
+use Rattle.describe.specs.FitValues.{part-length, part-each, counted-part}
+use Rattle.describe.specs.Constants.{Content, bare, digits, span, contentOf, valueOf, constantFrom}
+use Rattle.describe.specs.Constants as describes
+
+-- ---- codes and their shapes
+
+-- of two numbers only one of which is on a list
+differ : (ks : List ℕ) (n k : ℕ) → (among n ks ≡ among k ks → ⊥) → eqb n k ≡ false
+differ ks n k h = ne-eqb n k (λ e. h (ap (λ (x : ℕ). among x ks) e))
+
+never : true ≡ false → ⊥
+never e = let z : _≡_ {A = ℕ} 0 1 = cc in omega arith
+
+both : (a b : Bool) → T (a && b) → T a × T b
+both true b t = (tt, t)
+both false b t = absurd t
+
+-- the codes that have a case of their own, those of texts and decimals first
+abbrev codes : List ℕ
+codes = 0 ∷ 1 ∷ 2 ∷ 3 ∷ 4 ∷ 5 ∷ 6 ∷ 7 ∷ 10 ∷ 11 ∷ 16 ∷ 17 ∷ 18 ∷ 19 ∷ 20 ∷ 21 ∷ 22 ∷ 23 ∷ 24 ∷ 25 ∷ 64 ∷ []
+
+abbrev known : List ℕ
+known = 8 ∷ 14 ∷ codes
+
+-- a code that is not known has four bytes
+abbrev four : Bool → Shape → Bool
+four true h = true
+four false (Shape.number w) = eqb w 4
+four false (Shape.octets k) = false
+four false Shape.empty = false
+four false Shape.bit = false
+four false Shape.text = false
+
+four-is : (h : Shape) → T (four false h) → h ≡ Shape.number 4
+four-is (Shape.number w) t = ap Shape.number (eqb-true w 4 (through (eqb w 4) t))
+  where
+    through : (b : Bool) → T b → b ≡ true
+    through true t = refl
+    through false t = absurd t
+four-is (Shape.octets k) t = absurd t
+four-is Shape.empty t = absurd t
+four-is Shape.bit t = absurd t
+four-is Shape.text t = absurd t
+
+abbrev rule : ℕ → List Shape → Bool
+rule i [] = true
+rule i (h ∷ hs) = four (among i known) h && rule (suc i) hs
+
+rule-at : (i : ℕ) (hs : List Shape) (k n : ℕ) → i + k ≡ n → T (rule i hs) → among n known ≡ false → getD hs k (Shape.number 4) ≡ Shape.number 4
+rule-at i [] k n q t e = refl
+rule-at i (h ∷ hs) zero n q t e =
+    let p : i ≡ n = omega arith in
+    let f : among i known ≡ false = ap (λ (x : ℕ). among x known) p ∙ e in
+    four-is h (rw f at (both (four (among i known) h) (rule (suc i) hs) t .0))
+rule-at i (h ∷ hs) (suc k) n q t e =
+    rule-at (suc i) hs k n (omega arith) (both (four (among i known) h) (rule (suc i) hs) t .1) e
+
+shape-raw : (vt : ℕ) → among vt known ≡ false → shapeOf vt ≡ Shape.number 4
+shape-raw vt e =
+    let f : eqb vt 64 ≡ false = differ known vt 64 (λ q. never (sym q ∙ e)) in
+    rw f (rule-at 0 shapes vt vt (omega arith) tt e)
+
+-- ---- a constant that holds a number
+
+-- the bits of a signed number
+signed-lt : (w : Width) (n : ℕ) → n < 2 ^ bits w → ofZ w (toZ w n) < 2 ^ bits w
+signed-lt w n h = rw (ofZ-toZ w n (record { fits = h })) h
+
+low-lt : (k v : ℕ) → low k v < 2 ^ k
+low-lt k v = mod-lt v (pow-pos k)
+
+module _ (s : List ℕ) where
+  abbrev Fitted : ConstValue → Type 0
+  Fitted v = Fits constant (constantFrom s v)
+
+  number-at : (h : Shape) (c : Content) (w n : ℕ) → h ≡ Shape.number w → c ≡ digits n → n < 256 ^ w → Fits (sheet.value h) (valueOf s c h)
+  number-at h c w n e f k = rw (e, f) k
+
+  raw-fits : (vt v : ℕ) → vt < 256 ^ 2 → among vt known ≡ false → Fitted (const.Raw vt (toZ w32 (low 32 v)))
+  unfolding constant constantFrom vtOf contentOf
+  raw-fits vt v h e = (h, number-at (shapeOf vt) _ 4 _ (shape-raw vt e) refl (signed-lt w32 (low 32 v) (low-lt 32 v)))
+
+  -- a float, by its bits
+  r4-fits : (r : Real) → real.bitsOf binary32 r < 256 ^ 4 → Fitted (r4As r)
+  unfolding constant constantFrom vtOf contentOf real.bitsOf
+  r4-fits (number x) h = (lit< tt, h)
+  r4-fits (nan n) h = (lit< tt, h)
+
+  r8-fits : (r : Real) → real.bitsOf binary64 r < 256 ^ 8 → Fitted (r8As r)
+  unfolding constant constantFrom vtOf contentOf real.bitsOf
+  r8-fits (number x) h = (lit< tt, h)
+  r8-fits (nan n) h = (lit< tt, h)
+
+  date-fits : (r : Real) → real.bitsOf binary64 r < 256 ^ 8 → Fitted (dateAs r)
+  unfolding constant constantFrom vtOf contentOf real.bitsOf
+  date-fits (number x) h = (lit< tt, h)
+  date-fits (nan n) h = (lit< tt, h)
+
+  real-lt : (f : Format) (n : ℕ) → n < 2 * top f → real.bitsOf f (realOf f n) < 2 * top f
+  real-lt f n h = rw (bits-back f n h) h
+
+  truth-fits : (b : Bool) → Fitted (const.Bool b)
+  unfolding constant constantFrom vtOf contentOf
+  truth-fits true = (lit< tt, bit-fits 1 (lit< tt))
+  truth-fits false = (lit< tt, bit-fits 0 (lit< tt))
+
+  -- ---- a number as a value of a code
+
+  constant-fits : (vt v : ℕ) → vt < 256 ^ 2 → eqb vt 8 ≡ false → eqb vt 14 ≡ false → v < 2 ^ 64 → Fitted (constantOf vt v)
+  unfolding constantOf constant constantFrom vtOf contentOf
+  constant-fits vt v h text decimal k =
+      let word = signed-lt w32 (low 32 v) (low-lt 32 v) in
+      let long = signed-lt w64 v k in
+      cond-elim Fitted (eqb vt 0) _ _ (λ _. (lit< tt, tt)) (λ e0.
+      cond-elim Fitted (eqb vt 1) _ _ (λ _. (lit< tt, tt)) (λ e1.
+      cond-elim Fitted (eqb vt 2) _ _ (λ _. (lit< tt, signed-lt w16 (low 16 v) (low-lt 16 v))) (λ e2.
+      cond-elim Fitted (eqb vt 3) _ _ (λ _. (lit< tt, word)) (λ e3.
+      cond-elim Fitted (eqb vt 4) _ _ (λ _. r4-fits (realOf binary32 (low 32 v)) (real-lt binary32 (low 32 v) (low-lt 32 v))) (λ e4.
+      cond-elim Fitted (eqb vt 5) _ _ (λ _. r8-fits (realOf binary64 v) (real-lt binary64 v k)) (λ e5.
+      cond-elim Fitted (eqb vt 6) _ _ (λ _. (lit< tt, long)) (λ e6.
+      cond-elim Fitted (eqb vt 7) _ _ (λ _. date-fits (realOf binary64 v) (real-lt binary64 v k)) (λ e7.
+      cond-elim Fitted (eqb vt 10) _ _ (λ _. (lit< tt, word)) (λ e10.
+      cond-elim Fitted (eqb vt 11) _ _ (λ _. truth-fits (not (eqb v 0))) (λ e11.
+      cond-elim Fitted (eqb vt 16) _ _ (λ _. (lit< tt, signed-lt w8 (low 8 v) (low-lt 8 v))) (λ e16.
+      cond-elim Fitted (eqb vt 17) _ _ (λ _. (lit< tt, low-lt 8 v)) (λ e17.
+      cond-elim Fitted (eqb vt 18) _ _ (λ _. (lit< tt, low-lt 16 v)) (λ e18.
+      cond-elim Fitted (eqb vt 19) _ _ (λ _. (lit< tt, low-lt 32 v)) (λ e19.
+      cond-elim Fitted (eqb vt 20) _ _ (λ _. (lit< tt, long)) (λ e20.
+      cond-elim Fitted (eqb vt 21) _ _ (λ _. (lit< tt, k)) (λ e21.
+      cond-elim Fitted (eqb vt 22) _ _ (λ _. (lit< tt, word)) (λ e22.
+      cond-elim Fitted (eqb vt 23) _ _ (λ _. (lit< tt, low-lt 32 v)) (λ e23.
+      cond-elim Fitted (eqb vt 24) _ _ (λ _. (lit< tt, tt)) (λ e24.
+      cond-elim Fitted (eqb vt 25) _ _ (λ _. (lit< tt, word)) (λ e25.
+      cond-elim Fitted (eqb vt 64) _ _ (λ _. (lit< tt, k)) (λ e64.
+      raw-fits vt v h (rw (text, decimal, e0, e1, e2, e3, e4, e5, e6, e7, e10, e11, e16, e17, e18, e19, e20, e21, e22, e23, e24, e25, e64)))))))))))))))))))))))
