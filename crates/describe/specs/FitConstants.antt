@@ -171,3 +171,88 @@ module _ (s : List ℕ) where
       cond-elim Fitted (eqb vt 25) _ _ (λ _. (lit< tt, word)) (λ e25.
       cond-elim Fitted (eqb vt 64) _ _ (λ _. (lit< tt, k)) (λ e64.
       raw-fits vt v h (rw (text, decimal, e0, e1, e2, e3, e4, e5, e6, e7, e10, e11, e16, e17, e18, e19, e20, e21, e22, e23, e24, e25, e64)))))))))))))))))))))))
+
+-- ---- texts, decimals, and the constant that a word is or names
+
+-- but for decimals a stored value has at most eight bytes
+width-most : (vt : ℕ) → eqb vt 14 ≡ false → storedWidth vt ≤ 8
+unfolding storedWidth
+width-most vt d =
+    let P : ℕ → Type 0 = λ w. w ≤ 8 in
+    cond-elim P (among vt (0 ∷ 1 ∷ 24 ∷ [])) 0 _ (λ _. omega arith) (λ _.
+    cond-elim P (eqb vt 11) 2 _ (λ _. omega arith) (λ _.
+    cond-elim P (among vt (5 ∷ 6 ∷ 7 ∷ 20 ∷ 21 ∷ 64 ∷ [])) 8 _ (λ _. omega arith) (λ _.
+    cond-elim P (eqb vt 14) 16 4 (λ e. absurd (never (sym e ∙ d))) (λ _. omega arith))))
+
+-- an inline code is no text's and no decimal's
+pub record Inline (vt : ℕ) : Type 0 where
+  pub small : vt < 256 ^ 2
+  pub text : eqb vt 8 ≡ false
+  pub decimal : eqb vt 14 ≡ false
+
+inline : (n : ℕ) → n < 256 ^ 2 → Inline (inlineCode n)
+unfolding inlineCode
+inline n h =
+    cond-elim Inline (among n inlineCodes) n 3
+    (λ e. record {
+      small = h;
+      text = differ inlineCodes n 8 (λ q. never (sym e ∙ q));
+      decimal = differ inlineCodes n 14 (λ q. never (sym e ∙ q));
+    })
+    (λ _. record { small = lit< tt; text = refl; decimal = refl })
+
+module _ (s : List ℕ) (octets : Octets s) (lib : TypeLib) where
+  text-fits : (p : Place) → p .len < 256 ^ 4 → Fitted s (const.Bstr p)
+  unfolding constant constantFrom vtOf contentOf
+  text-fits p h = (lit< tt, opt-fits (counted u32) (present (counted-part s octets 4 p h)))
+
+  null-fits : Fitted s const.NullBstr
+  unfolding constant constantFrom vtOf contentOf
+  null-fits = (lit< tt, opt-fits (counted u32) missing)
+
+  decimal-fits : (p : Place) → p .at + p .len ≤ length s → p .len ≡ 16 → Fitted s (const.Decimal p)
+  unfolding constant constantFrom vtOf contentOf
+  decimal-fits p h e = (lit< tt, (part-length s p h ∙ e, part-each s octets p))
+
+  behind-fits : (offset n : ℕ) → IfValue (Fitted s) (textBehind s lib offset n)
+  unfolding textBehind
+  behind-fits offset n =
+      cond-elim (IfValue (Fitted s)) (eqb n 0xffffffff) _ _ (λ _. gives null-fits) (λ _.
+      cond-elim (IfValue (Fitted s)) (negative n) _ _ (λ _. refuses tt) (λ h.
+      answers-map (λ p. const.Bstr (record { at = p .at + 6; len = n })) (anything (tablePlace false s lib 11 offset (6 + n))) (λ p _.
+      text-fits (record { at = p .at + 6; len = n }) (omega (arith, leb-false 0x80000000 n h)))))
+
+  sixteen : (vt at : ℕ) → vt ≡ 14 → at + storedWidth vt ≤ length s → at + 16 ≤ length s
+  unfolding storedWidth
+  sixteen vt at e h = rw e at h
+
+  value-fits : (offset vt at : ℕ) → vt < 256 ^ 2 → at + storedWidth vt ≤ length s → IfValue (Fitted s) (valueAt s lib offset vt at)
+  unfolding valueAt
+  value-fits offset vt at h inside =
+      cond-elim (IfValue (Fitted s)) (eqb vt 8) _ _ (λ _. behind-fits offset (le 4 s at)) (λ t.
+      cond-elim (IfValue (Fitted s)) (eqb vt 14) _ _
+      (λ e. gives (decimal-fits (record { at = at; len = 16 }) (sixteen vt at (eqb-true vt 14 e) inside) refl))
+      (λ d.
+      let v : le (storedWidth vt) s at < 256 ^ 8 =
+      lt-of-lt-of-le (le-lt (storedWidth vt) s at octets) (pow-le-pow-right (lit< tt) (width-most vt d)) in
+      gives (constant-fits s vt (le (storedWidth vt) s at) h t d v)))
+
+  stored-fits : (offset : ℕ) → IfValue (Fitted s) (storedAt s lib offset)
+  stored-fits offset =
+      answers-bind (anything (tablePlace false s lib 11 offset 2)) (λ p _.
+      let vt : ℕ = le 2 s (p .at) in
+      answers-bind (told (tablePlace false s lib 11 offset (2 + storedWidth vt)) (λ q e. found-place _ s lib 11 offset (2 + storedWidth vt) q e)) (λ q f.
+      value-fits offset vt (q .at + 2) (le-lt 2 s (p .at) octets) (omega (arith, f .inside))))
+
+  inline-fits : (word : ℕ) → Fitted s (inlineOf word)
+  inline-fits word =
+      let i : Inline (inlineCode (bitsOf 26 5 word)) = inline (bitsOf 26 5 word) (omega arith) in
+      constant-fits s (inlineCode (bitsOf 26 5 word)) (bitsOf 0 26 word) (i .small) (i .text) (i .decimal) (omega arith)
+
+  pub const-fits : (word : ℕ) → Fits (opt constant) (describes.constantOf s lib word)
+  unfolding describes.constantOf
+  const-fits word =
+      opt-fits constant (if-found (answers-map (constantFrom s)
+      (answers-lent s _ tt (λ _.
+      cond-elim (IfValue (Fitted s)) (negative word) _ _ (λ _. gives (inline-fits word)) (λ _. stored-fits word)))
+      (λ v h. h)))
