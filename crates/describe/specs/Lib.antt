@@ -12,3 +12,5 @@ pub mod Edges
 pub mod Answers
 pub mod FitValues
 pub mod FitConstants
+pub mod FitReferences
+pub mod FitTrees
