@@ -14,3 +14,4 @@ pub mod FitValues
 pub mod FitConstants
 pub mod FitReferences
 pub mod FitTrees
+pub mod YieldLaws
