@@ -15,3 +15,4 @@ pub mod FitConstants
 pub mod FitReferences
 pub mod FitTrees
 pub mod YieldLaws
+pub mod FitMembers
