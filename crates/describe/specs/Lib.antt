@@ -16,3 +16,5 @@ pub mod FitReferences
 pub mod FitTrees
 pub mod YieldLaws
 pub mod FitMembers
+pub mod FitTypes
+pub mod Fit
