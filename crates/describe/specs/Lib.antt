@@ -18,3 +18,4 @@ pub mod YieldLaws
 pub mod FitMembers
 pub mod FitTypes
 pub mod Fit
+pub mod Demand3
