@@ -19,3 +19,4 @@ pub mod FitMembers
 pub mod FitTypes
 pub mod Fit
 pub mod Demand3
+pub mod Refusals
