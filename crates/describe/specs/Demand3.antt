@@ -3,7 +3,7 @@
 use mathlib.Core.Path.{_≡_, refl, sym, _∙_, ap}
 use mathlib.Core.Logic.{_↔_}
 use mathlib.Core.Bool.{Bool, true, false, _&&_}
-use mathlib.Core.List.{List, _++_}
+use mathlib.Core.List.{List}
 use Prim.Native.Nat.{ℕ, _≤_}
 use native.Mathlib.Omega.{arith}
 use lib.Dec.{leb}
@@ -110,13 +110,12 @@ module _ (e : Edition) (roomy : Roomy e) {s₁ s₂ o₁ o₂ o₁′ o₂′ : 
       let d : Library = x .description in
       let d′ : Library = y .description in
       let f : Fits (sheet e) d = described-fits e roomy s₁ octets₁ d (x .is) (omega (arith, x .size, x .most)) in
-      let f′ : Fits (sheet e) d′ = described-fits e roomy s₂ octets₂ d′ (y .is) (omega (arith, y .size, y .most)) in
-      (
+      let f′ : Fits (sheet e) d′ = described-fits e roomy s₂ octets₂ d′ (y .is) (omega (arith, y .size, y .most)) in (
         λ p. x .is ∙ ap value (sheets-same e f f′ .0 (sym (x .size) ∙ p .0 ∙ y .size, sym (x .front) ∙ p .1 ∙ y .front)) ∙ sym (y .is),
         λ p.
-          let q : d ≡ d′ = cc in
-          let z = sheets-same e f f′ .1 q in
-          (x .size ∙ z .0 ∙ sym (y .size), x .front ∙ z .1 ∙ sym (y .front)),
+            let q : d ≡ d′ = cc in
+            let z = sheets-same e f f′ .1 q in
+            (x .size ∙ z .0 ∙ sym (y .size), x .front ∙ z .1 ∙ sym (y .front)),
       )
 
 pub demand-3 : {s₁ s₂ o₁ o₂ o₁′ o₂′ : List ℕ} {r₁ r₂ : Answer ℕ} {n₁ n₂ : ℕ} → Octets s₁ → Octets s₂

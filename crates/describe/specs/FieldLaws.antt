@@ -12,8 +12,8 @@ use lib.ListN.{length, getD}
 use lib.Text.{eqt}
 use Rattle.util.specs.Read.{le, read, orZero, le-lt, cond-elim, read-some}
 use Rattle.records.specs.declared.answer.Place.{Place}
-use Rattle.records.specs.Answer.{Answer, value, map}
-use Rattle.records.specs.Layout.{Layout, Field, sizeOf, offsetOf, widthOf}
+use Rattle.records.specs.Answer.{value, map}
+use Rattle.records.specs.Layout.{Layout, sizeOf, offsetOf, widthOf}
 use Rattle.records.specs.Record.{fieldPlace, fieldAt, field}
 use Rattle.records.specs.RecordLaws.{held-inside, Holds, place-some}
 use Rattle.describe.specs.Values.{fieldOf}

@@ -1,6 +1,6 @@
 -- THE DESCRIPTION THAT IS TAKEN FROM BYTES FITS THE SHEET of every edition whose internal references have room for the types
 -- that it allows. Assumes nothing.
-use mathlib.Core.Path.{_≡_, refl, sym, _∙_, ap, subst}
+use mathlib.Core.Path.{_≡_, sym, _∙_, subst}
 use mathlib.Core.List.{List}
 use Prim.Native.Nat.{ℕ, _^_, _≤_, _<_}
 use native.Mathlib.Omega.{arith}
@@ -8,7 +8,7 @@ use lib.Dec.{ltb, lit<}
 use lib.ListN.{length}
 use borrow.Author.Tests.{ltb-false}
 use Rattle.util.specs.Read.{cond-elim}
-use Rattle.records.specs.Answer.{Answer, value}
+use Rattle.records.specs.Answer.{value}
 use Rattle.records.specs.Record.{limit}
 use Rattle.typelib.specs.declared.TypeLib.{TypeLib}
 use Rattle.typelib.specs.Header.{header, parseOf}

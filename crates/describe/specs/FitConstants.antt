@@ -1,13 +1,12 @@
 -- Constants that are taken from bytes fit the sheet. Assumes nothing.
 use mathlib.Core.Path.{_≡_, refl, sym, _∙_, ap}
-use mathlib.Core.Bool.{Bool, true, false, cond, not, _&&_}
-use mathlib.Core.Option.{Option, some, none}
-use mathlib.Core.List.{List, [], _∷_, map}
-use Prim.Native.Nat.{ℕ, zero, suc, _+_, _*_, _%_, _^_, _≤_, _<_}
-use native.Mathlib.Nat.{mod-lt, pow-le-pow-right, lt-of-lt-of-le, add-suc}
+use mathlib.Core.Bool.{Bool, true, false, not, _&&_}
+use mathlib.Core.List.{List, [], _∷_}
+use Prim.Native.Nat.{ℕ, zero, suc, _+_, _*_, _^_, _≤_, _<_}
+use native.Mathlib.Nat.{mod-lt, pow-le-pow-right, lt-of-lt-of-le}
 use native.Mathlib.Omega.{arith}
-use lib.Dec.{T, leb, eqb, lit<}
-use lib.Ieee.{Format, binary32, binary64, toBits, top}
+use lib.Dec.{T, eqb, lit<}
+use lib.Ieee.{Format, binary32, binary64, top}
 use lib.ListN.{length, getD}
 use lib.Pow.{pow-pos}
 use borrow.Author.Tests.{leb-false, eqb-true, ne-eqb}
@@ -20,14 +19,14 @@ use Rattle.util.specs.Real as real
 use Rattle.records.specs.declared.answer.Place.{Place}
 use Rattle.records.specs.declared.types.ConstValue.{ConstValue}
 use Rattle.records.specs.declared.types.ConstValue.the-variants as const
-use Rattle.records.specs.Answer.{Answer, value, refused}
-use Rattle.records.specs.Record.{bitsOf, partOf}
+use Rattle.records.specs.Answer.{value}
+use Rattle.records.specs.Record.{bitsOf}
 use Rattle.records.specs.Types.{vtOf}
 use Rattle.typelib.specs.declared.TypeLib.{TypeLib}
 use Rattle.typelib.specs.Tables.{negative, tablePlace}
 use Rattle.typelib.specs.TableLaws.{found as found-place}
-use Rattle.typelib.specs.Constants.{Case, select, low, r4As, r8As, dateAs, constantOf, among, inlineCodes, inlineCode, inlineOf, storedWidth, textBehind, valueAt, valueBehind, storedAt, constAt}
-use Rattle.description.specs.Format.{Fits, Each, IfAny, opt, counted}
+use Rattle.typelib.specs.Constants.{low, r4As, r8As, dateAs, constantOf, among, inlineCodes, inlineCode, inlineOf, storedWidth, textBehind, valueAt, storedAt}
+use Rattle.description.specs.Format.{Fits, opt, counted}
 use Rattle.description.specs.Format.IfAny.{missing}
 use Rattle.description.specs.Format.IfAny.{found as present}
 use Rattle.description.specs.Description.{Shape, shapes, shapeOf}
@@ -37,7 +36,7 @@ use Rattle.description.specs.Fit.{bit-fits, opt-fits}
 use Rattle.describe.specs.FieldLaws.{Octets}
 use Rattle.describe.specs.Answers.{IfValue, gives, refuses, told, anything, answers-bind, answers-map, answers-lent, if-found}
 use Rattle.describe.specs.FitValues.{part-length, part-each, counted-part}
-use Rattle.describe.specs.Constants.{Content, bare, digits, span, contentOf, valueOf, constantFrom}
+use Rattle.describe.specs.Constants.{Content, digits, contentOf, valueOf, constantFrom}
 use Rattle.describe.specs.Constants as describes
 
 -- ---- codes and their shapes

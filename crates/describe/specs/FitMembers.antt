@@ -1,43 +1,42 @@
 -- Functions, parameters and variables that are taken from bytes fit the sheet. Assumes nothing.
-use mathlib.Core.Path.{_≡_, refl, sym, _∙_, ap}
-use mathlib.Core.Bool.{Bool, true, false, cond}
+use mathlib.Core.Path.{_≡_, refl, _∙_}
+use mathlib.Core.Bool.{Bool, true, false}
 use mathlib.Core.Option.{Option, some, none}
-use mathlib.Core.List.{List, [], _∷_}
-use Prim.Native.Nat.{ℕ, zero, suc, _+_, _-_, _*_, _^_, _≤_, _<_}
+use mathlib.Core.List.{List}
+use Prim.Native.Nat.{ℕ, suc, _+_, _-_, _*_, _^_, _≤_, _<_}
 use native.Mathlib.Nat.{mod-lt}
 use native.Mathlib.Omega.{arith}
-use lib.Dec.{ltb, leb, lit<}
+use lib.Dec.{ltb, lit<}
 use lib.IntN.{ℤ, pos, negsuc}
 use lib.ListN.{length}
 use lib.Pow.{pow-pos}
 use borrow.Author.Tests.{ltb-true}
 use mir.Syntax.{w16, w32}
 use mir.Val.{toZ, ofZ, sel}
-use Rattle.util.specs.Read.{read, cond-elim}
+use Rattle.util.specs.Read.{cond-elim}
 use Rattle.records.specs.declared.answer.Place.{Place}
 use Rattle.records.specs.declared.func.FuncRecord.{FuncRecord}
 use Rattle.records.specs.declared.typeinfo.TypeInfoEntry.{TypeInfoEntry}
-use Rattle.records.specs.Answer.{Answer, value, refused, map, orNine}
+use Rattle.records.specs.Answer.{Answer, value, refused, map}
 use Rattle.records.specs.Attributes.{atLeastZero, argumentCount, defaultValueOffset}
 use Rattle.records.specs.Layout.{sizeOf, parameterInfo, funcRecord, varRecord}
-use Rattle.records.specs.Record.{field, bitsOf, recordPlace, signed16, flagSet}
+use Rattle.records.specs.Record.{field, bitsOf, recordPlace, flagSet}
 use Rattle.typelib.specs.declared.TypeLib.{TypeLib}
 use Rattle.typelib.specs.declared.typeinfos.Counts.{Counts}
 use Rattle.typelib.specs.declared.iterators.FuncCursor.{FuncCursor}
 use Rattle.typelib.specs.declared.iterators.VarCursor.{VarCursor}
 use Rattle.typelib.specs.declared.iterators.ParamCursor.{ParamCursor}
 use Rattle.typelib.specs.Cursors.{funcStep, blockWith, funcCursor, funcsOf, varStep, skip, varsFrom, varCursor, varsOf, paramStep, paramCursor, paramsOf}
-use Rattle.typelib.specs.TypeInfos.{ofTypeInfo, countsOf, blockAt, auxWord, auxIn, memberWord, funcMemid, varMemid, funcNameOffset, varNameOffset}
-use Rattle.description.specs.Format.{Format, Fits, Each, list, opt}
-use Rattle.description.specs.Description.{Tree, isConstant}
+use Rattle.typelib.specs.TypeInfos.{ofTypeInfo, countsOf, blockAt, auxWord, auxIn, memberWord, funcNameOffset, varNameOffset}
+use Rattle.description.specs.Format.{Format, Fits, list, opt}
+use Rattle.description.specs.Description.{isConstant}
 use Rattle.description.specs.Sheet.{Edition, u16, u32, constant, variableValue, variable, parameter, function}
 use Rattle.description.specs.Format.IfAny.{missing}
 use Rattle.description.specs.Fit.{opt-fits, list-fits}
-use Rattle.describe.specs.Values.{found, fieldOf, all, numbered}
-use Rattle.describe.specs.Trees.{treeOf}
+use Rattle.describe.specs.Values.{fieldOf, all, numbered}
 use Rattle.describe.specs.Members.{funcRecords, varRecords, paramRecords, hasDefault, constantBy, defaultOf, parameterWith, parameterOf, parametersOf, functionWith, functionOf, functionsOf, valueWith, variableWith, variableOf, variablesOf}
 use Rattle.describe.specs.FieldLaws.{Octets, field-lt}
-use Rattle.describe.specs.Answers.{IfValue, gives, refuses, anything, answers-value, answers-bind, answers-map, answers-mono, answers-all, if-found, numbered-each, numbered-length}
+use Rattle.describe.specs.Answers.{IfValue, anything, answers-value, answers-bind, answers-map, answers-mono, answers-all, if-found, numbered-each, numbered-length}
 use Rattle.describe.specs.YieldLaws.{yields-most}
 use Rattle.describe.specs.FitValues.{word-fits, name-fits, name-by-fits}
 use Rattle.describe.specs.FitConstants.{const-fits}
@@ -214,7 +213,7 @@ module _ (s : List ℕ) (octets : Octets s) where
                 (
                   field-lt s octets varRecord "VarKind" (p .at),
                   value-fits (isConstant (fieldOf varRecord "VarKind" s (p .at))) (fieldOf varRecord "OffsValue" s (p .at))
-                  (field-lt s octets varRecord "OffsValue" (p .at)),
+                      (field-lt s octets varRecord "OffsValue" (p .at)),
                 ),
               ),
             ),

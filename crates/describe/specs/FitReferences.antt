@@ -1,6 +1,6 @@
 -- References that are taken from bytes fit the sheet. Assumes nothing.
-use mathlib.Core.Path.{_≡_, refl, sym, _∙_, ap}
-use mathlib.Core.Bool.{Bool, true, false, cond}
+use mathlib.Core.Path.{refl}
+use mathlib.Core.Bool.{Bool, true, false}
 use mathlib.Core.List.{List}
 use Prim.Native.Nat.{ℕ, _+_, _-_, _/_, _%_, _^_, _≤_, _<_}
 use native.Mathlib.Omega.{arith}
@@ -8,20 +8,20 @@ use lib.Dec.{ltb}
 use borrow.Author.Tests.{ltb-true}
 use Rattle.util.specs.Read.{le, le-lt, cond-elim}
 use Rattle.records.specs.declared.answer.Place.{Place}
-use Rattle.records.specs.Answer.{Answer, value, refused, map, bind}
+use Rattle.records.specs.Answer.{Answer, value, refused}
 use Rattle.records.specs.Counted.{fileNameBytes}
 use Rattle.records.specs.Layout.{impFile, impInfo}
 use Rattle.records.specs.Record.{fieldPlace, fieldAt, bitsOf, partOf}
 use Rattle.records.specs.RecordLaws.{lies}
 use Rattle.typelib.specs.declared.TypeLib.{TypeLib}
 use Rattle.typelib.specs.Tables.{negative, tablePlace}
-use Rattle.typelib.specs.References.{Resolved, internalIndex, importAt, inThisFile, cleared, resolvedAt, hrefResolved}
+use Rattle.typelib.specs.References.{Resolved, internalIndex, inThisFile, cleared, resolvedAt, hrefResolved}
 use Rattle.typelib.specs.References.{internal as here, external}
 use Rattle.description.specs.Format.{Fits, opt}
 use Rattle.description.specs.Description.{ownIsGuid}
 use Rattle.description.specs.Sheet.{Edition, file, own, import, reference}
 use Rattle.description.specs.Fit.{opt-fits, bit-fits, unresolved-fits, internal-fits, imported-fits}
-use Rattle.describe.specs.Values.{bytesIn, fieldOf}
+use Rattle.describe.specs.Values.{fieldOf}
 use Rattle.describe.specs.References.{fileWith, fileAt, fileOf, ownOf, importOf, referenceFrom, referenceOf}
 use Rattle.describe.specs.FieldLaws.{Octets, number-lt, field-lt}
 use Rattle.describe.specs.Answers.{IfValue, gives, refuses, told, anything, answers-bind, answers-map, answers-lent, answers-value, if-found}

@@ -1,7 +1,6 @@
 -- Trees that are taken from bytes fit the sheet. Assumes nothing.
-use mathlib.Core.Path.{_≡_, refl, sym, _∙_, ap}
-use mathlib.Core.Bool.{false, cond}
-use mathlib.Core.List.{List, [], _∷_}
+use mathlib.Core.Path.{_≡_, refl, ap}
+use mathlib.Core.List.{List}
 use Prim.Native.Nat.{ℕ, zero, suc, _+_, _^_, _≤_, _<_}
 use native.Mathlib.Omega.{arith}
 use lib.Dec.{eqb}
@@ -18,7 +17,7 @@ use Rattle.typelib.specs.declared.TypeLib.{TypeLib}
 use Rattle.typelib.specs.Tables.{lent, negative}
 use Rattle.typelib.specs.Descriptors.{typeDescAt, arrayDescAt, descriptionOf, typeDescription}
 use Rattle.description.specs.Format.{Fits, Each, list}
-use Rattle.description.specs.Description.{Dimension, Tree}
+use Rattle.description.specs.Description.{Tree}
 use Rattle.description.specs.Description.Tree.{pointer, safeArray, cArray}
 use Rattle.description.specs.Sheet.{Edition, u16, dimension, nested, tree}
 use Rattle.description.specs.Fit.{list-fits, nothing-fits, base-fits, pointer-fits, safeArray-fits, cArray-fits}

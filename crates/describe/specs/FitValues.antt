@@ -1,28 +1,25 @@
 -- Numbers, bytes, names and GUIDs that are taken from bytes fit their formats. Assumes nothing.
-use mathlib.Core.Path.{_≡_, refl, sym, _∙_, ap}
+use mathlib.Core.Path.{_≡_, _∙_}
 use mathlib.Core.Bool.{false}
-use mathlib.Core.Option.{Option}
 use mathlib.Core.List.{List, [], _∷_}
-use Prim.Native.Nat.{ℕ, zero, suc, _+_, _*_, _^_, _≤_, _<_}
+use Prim.Native.Nat.{ℕ, zero, suc, _+_, _^_, _≤_, _<_}
 use native.Mathlib.Omega.{arith}
-use lib.Dec.{leb, lit<}
-use lib.ListN.{length, take, drop, length-take, length-drop}
+use lib.Dec.{leb}
+use lib.ListN.{length, take, drop, length-drop}
 use lib.Seq.{length-take-le, getD-drop}
 use borrow.Author.Tests.{le-leb, leb-true}
-use Rattle.util.specs.Read.{le, read, le-lt, cond-elim, some-read}
+use Rattle.util.specs.Read.{le, read, le-lt, cond-elim}
 use Rattle.records.specs.declared.answer.Place.{Place}
-use Rattle.records.specs.Answer.{Answer, value, refused, map, bind, orNine}
+use Rattle.records.specs.Answer.{Answer, value, orNine}
 use Rattle.records.specs.Record.{partOf}
 use Rattle.typelib.specs.declared.TypeLib.{TypeLib}
 use Rattle.typelib.specs.Names.{nameBehind, nameBytes, guidPlace}
 use Rattle.typelib.specs.Tables.{tablePlace}
 use Rattle.typelib.specs.TableLaws.{found as found-place}
-use Rattle.description.specs.Format.{IfAny, Fits, Each, octets, counted, number, opt}
-use Rattle.description.specs.Format.IfAny.{missing}
-use Rattle.description.specs.Description.{Bytes}
+use Rattle.description.specs.Format.{Fits, Each, octets, counted, number, opt}
 use Rattle.description.specs.Sheet.{guid, name}
 use Rattle.description.specs.Fit.{opt-fits, counted-fits}
-use Rattle.describe.specs.Values.{found, bytesIn}
+use Rattle.describe.specs.Values.{bytesIn}
 use Rattle.describe.specs.FieldLaws.{Octets}
 use Rattle.describe.specs.Answers.{IfValue, told, anything, answers-bind, answers-map, if-found}
 use Rattle.describe.specs.References.{guidOf}

@@ -8,15 +8,15 @@ pub mod Types
 pub mod Describe
 pub mod Call
 pub mod FieldLaws
-pub mod Edges
 pub mod Answers
+pub mod YieldLaws
 pub mod FitValues
 pub mod FitConstants
 pub mod FitReferences
 pub mod FitTrees
-pub mod YieldLaws
 pub mod FitMembers
 pub mod FitTypes
 pub mod Fit
 pub mod Demand3
 pub mod Refusals
+pub mod Edges

@@ -1,10 +1,10 @@
 -- The numbers of a sheet call's refusal: those of document 01 but 9, "nothing there", which is part of the description.
 -- Assumes nothing.
-use mathlib.Core.Path.{_≡_, refl, sym, _∙_, ap, subst}
-use mathlib.Core.Bool.{cond, _&&_}
+use mathlib.Core.Path.{_≡_, refl, sym, subst}
+use mathlib.Core.Bool.{_&&_}
 use mathlib.Core.List.{List, [], _∷_}
 use mathlib.Core.List as list
-use Prim.Native.Nat.{ℕ, zero, suc, _+_, _*_, _≤_}
+use Prim.Native.Nat.{ℕ, zero, suc, _+_}
 use native.Mathlib.Omega.{arith}
 use lib.Dec.{T, leb, ltb, eqb}
 use lib.ListN.{length}
@@ -18,7 +18,7 @@ use Rattle.records.specs.declared.types.TypeDescription.{TypeDescription}
 use Rattle.records.specs.declared.types.TypeDescription.the-variants as type
 use Rattle.records.specs.Answer.{Answer, value, refused, map}
 use Rattle.records.specs.Layout.{sizeOf, typeInfoBase, arrayDesc, parameterInfo, funcRecord, varRecord}
-use Rattle.records.specs.Record.{limit, field}
+use Rattle.records.specs.Record.{limit}
 use Rattle.records.specs.RecordLaws.{Holds}
 use Rattle.typelib.specs.declared.TypeLib.{TypeLib}
 use Rattle.typelib.specs.declared.impltypes.ImplTypeCursor.{ImplTypeCursor}
@@ -36,8 +36,8 @@ use Rattle.description.specs.Description.{BaseShape, baseShapeOf, Tree}
 use Rattle.description.specs.Description.BaseShape.{absent, parent, implTypes, aliased}
 use Rattle.description.specs.Description.Tree.{pointer, safeArray, cArray}
 use Rattle.description.specs.Sheet.{Edition, sheetBytes}
-use Rattle.describe.specs.Values.{fieldOf, all, numbered}
-use Rattle.describe.specs.Trees.{dimensionsOf, treeFrom, nestedOf, treeOf}
+use Rattle.describe.specs.Values.{fieldOf, all}
+use Rattle.describe.specs.Trees.{dimensionsOf, treeFrom, nestedOf}
 use Rattle.describe.specs.Members.{paramRecords, parameterWith, parameterOf, parametersOf, funcRecords, functionWith, functionOf, functionsOf, varRecords, variableWith, variableOf, variablesOf}
 use Rattle.describe.specs.Types.{implTypeAt, implTypesAt, baseOf, kindAt, typeWith, typeAt, typeOf, typesFrom}
 use Rattle.describe.specs.Describe.{headerOf, describeAs, describe}
