@@ -24,12 +24,12 @@ Octets s = (i : ℕ) → getD s i 0 < 256
 
 -- ---- what the reading answers
 
--- w bytes at an offset inside the fixed part
-pub number-is : (w fixed offset : ℕ) (s : List ℕ) (at len : ℕ) → Holds s at len fixed → offset + w ≤ fixed
+-- w bytes at an offset inside the record
+pub number-is : (w fixed offset : ℕ) (s : List ℕ) (at len : ℕ) → Holds s at len fixed → offset + w ≤ len
     → fieldAt w fixed offset s at len ≡ value (orZero (read w s (at + offset)))
 number-is w fixed offset s at len h k =
     let p : value (record { at = at + offset; len = w }) ≡ fieldPlace w fixed offset s at len =
-    place-some w fixed offset s at len (held-inside s at len fixed (h .few) (h .whole) (h .inside)) (omega arith) in
+    place-some w fixed offset s at len (held-inside s at len fixed (h .few) (h .whole) (h .inside)) k in
     ap (map (λ (q : Place). le w s (q .at))) (sym p)
     ∙ ap (λ o. value (orZero o)) (read-some w s (at + offset) (le w s (at + offset)) (omega arith) refl)
 
@@ -46,7 +46,8 @@ within (f ∷ fs) name = by (eqt (f .name) name) (within fs name)
 -- the field of that name
 pub field-is : (l : Layout) (name : String) (s : List ℕ) (at len : ℕ) → Holds s at len (sizeOf l)
     → field l name s at len ≡ value (fieldOf l name s at)
-field-is l name s at len h = number-is (widthOf l name) (sizeOf l) (offsetOf l name) s at len h (within l name)
+field-is l name s at len h =
+    number-is (widthOf l name) (sizeOf l) (offsetOf l name) s at len h (omega (arith, within l name, h .whole))
 
 -- ---- bounds
 

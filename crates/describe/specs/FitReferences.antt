@@ -2,11 +2,9 @@
 use mathlib.Core.Path.{refl}
 use mathlib.Core.Bool.{Bool, true, false}
 use mathlib.Core.List.{List}
-use Prim.Native.Nat.{ℕ, _+_, _-_, _/_, _%_, _^_, _≤_, _<_}
+use Prim.Native.Nat.{ℕ, _+_, _/_, _^_, _≤_, _<_}
 use native.Mathlib.Omega.{arith}
-use lib.Dec.{ltb}
-use borrow.Author.Tests.{ltb-true}
-use Rattle.util.specs.Read.{le, le-lt, cond-elim}
+use Rattle.util.specs.Read.{le, le-lt}
 use Rattle.records.specs.declared.answer.Place.{Place}
 use Rattle.records.specs.Answer.{Answer, value, refused}
 use Rattle.records.specs.Counted.{fileNameBytes}
@@ -14,8 +12,7 @@ use Rattle.records.specs.Layout.{impFile, impInfo}
 use Rattle.records.specs.Record.{fieldPlace, fieldAt, bitsOf, partOf}
 use Rattle.records.specs.RecordLaws.{lies}
 use Rattle.typelib.specs.declared.TypeLib.{TypeLib}
-use Rattle.typelib.specs.Tables.{negative, tablePlace}
-use Rattle.typelib.specs.References.{Resolved, internalIndex, inThisFile, cleared, resolvedAt, hrefResolved}
+use Rattle.typelib.specs.References.{Resolved, hrefResolved}
 use Rattle.typelib.specs.References.{internal as here, external}
 use Rattle.description.specs.Format.{Fits, opt}
 use Rattle.description.specs.Description.{ownIsGuid}
@@ -24,7 +21,8 @@ use Rattle.description.specs.Fit.{opt-fits, bit-fits, unresolved-fits, internal
 use Rattle.describe.specs.Values.{fieldOf}
 use Rattle.describe.specs.References.{fileWith, fileAt, fileOf, ownOf, importOf, referenceFrom, referenceOf}
 use Rattle.describe.specs.FieldLaws.{Octets, number-lt, field-lt}
-use Rattle.describe.specs.Answers.{IfValue, gives, refuses, told, anything, answers-bind, answers-map, answers-lent, answers-value, if-found}
+use Rattle.describe.specs.Answers.{IfValue, told, anything, answers-bind, answers-map, answers-value, if-found}
+use Rattle.describe.specs.Cases.{resolved-cases}
 use Rattle.describe.specs.FitValues.{guid-fits, counted-part}
 
 module _ (s : List ℕ) (octets : Octets s) where
@@ -76,24 +74,8 @@ module _ (s : List ℕ) (octets : Octets s) where
     Inside (here i) = i < lib .count
     Inside (external p a) = Unit {0}
 
-    index-inside : (h : ℕ) → IfValue (λ i. i < lib .count) (internalIndex lib h)
-    unfolding internalIndex
-    index-inside h =
-        cond-elim (IfValue (λ i. i < lib .count)) (ltb (h / 100) (lib .count)) (value (h / 100)) (refused 9)
-        (λ e. gives (ltb-true (h / 100) (lib .count) e))
-        (λ _. refuses tt)
-
-    resolved-inside : (h : ℕ) → IfValue Inside (resolvedAt s lib h)
-    unfolding resolvedAt
-    resolved-inside h =
-        cond-elim (IfValue Inside) (inThisFile h) _ _
-        (λ _. answers-map here (index-inside h) (λ i k. k))
-        (λ _. answers-map _ (anything (tablePlace true s lib 1 (h - h % 4) 12)) (λ p _. tt))
-
     href-inside : (h : ℕ) → IfValue Inside (hrefResolved s lib h)
-    href-inside h =
-        answers-lent s _ tt (λ _.
-        cond-elim (IfValue Inside) (negative h) _ _ (λ _. refuses tt) (λ _. resolved-inside (cleared h)))
+    href-inside = resolved-cases s lib Inside (λ i k. k) (λ _ _ _. tt)
 
     module _ (e : Edition) (room : lib .count ≤ 256 ^ e .indexWidth) where
       from-fits : (bit : ℕ) (a : Answer Resolved) → bit < 2 → IfValue Inside a → Fits (reference e (lib .count)) (referenceFrom s lib bit a)

@@ -3,19 +3,16 @@ use mathlib.Core.Path.{_≡_, refl, ap}
 use mathlib.Core.List.{List}
 use Prim.Native.Nat.{ℕ, zero, suc, _+_, _^_, _≤_, _<_}
 use native.Mathlib.Omega.{arith}
-use lib.Dec.{eqb}
 use lib.ListN.{length}
 use mir.Syntax.{w32}
 use mir.Val.{ofZ}
-use Rattle.util.specs.Read.{cond-elim}
 use Rattle.records.specs.declared.types.TypeDescription.{TypeDescription}
 use Rattle.records.specs.declared.types.TypeDescription.the-variants as type
 use Rattle.records.specs.Answer.{Answer, value, refused}
 use Rattle.records.specs.Layout.{sizeOf, arrayDesc, arrayBound}
-use Rattle.records.specs.Record.{bitsOf}
 use Rattle.typelib.specs.declared.TypeLib.{TypeLib}
-use Rattle.typelib.specs.Tables.{lent, negative}
-use Rattle.typelib.specs.Descriptors.{typeDescAt, arrayDescAt, descriptionOf, typeDescription}
+use Rattle.typelib.specs.Tables.{lent}
+use Rattle.typelib.specs.Descriptors.{typeDescription}
 use Rattle.description.specs.Format.{Fits, Each, list}
 use Rattle.description.specs.Description.{Tree}
 use Rattle.description.specs.Description.Tree.{pointer, safeArray, cArray}
@@ -26,7 +23,8 @@ use Rattle.describe.specs.Values.{fieldOf}
 use Rattle.describe.specs.References.{referenceOf}
 use Rattle.describe.specs.Trees.{dimensionsAt, dimensionsOf, treeFrom, nestedOf, treeOf}
 use Rattle.describe.specs.FieldLaws.{Octets, field-lt}
-use Rattle.describe.specs.Answers.{IfValue, gives, refuses, anything, answers-bind, answers-map, answers-lent, answers-value}
+use Rattle.describe.specs.Answers.{IfValue, gives, refuses, answers-map, answers-value}
+use Rattle.describe.specs.Cases.{description-cases}
 use Rattle.describe.specs.FitReferences.{reference-fits}
 
 -- ---- dimensions
@@ -57,7 +55,7 @@ module _ (s : List ℕ) (octets : Octets s) where
   -- ---- one description
 
   module _ (lib : TypeLib) where
-    -- the code of a base type is below 4096
+    -- two bytes hold the code of a base type
     abbrev Small : TypeDescription → Type 0
     Small (type.Base vt) = vt < 256 ^ 2
     Small (type.Pointer x) = Unit {0}
@@ -65,22 +63,8 @@ module _ (s : List ℕ) (octets : Octets s) where
     Small (type.CArray d) = Unit {0}
     Small (type.UserDefined x) = Unit {0}
 
-    description-small : (code second : ℕ) → code < 256 ^ 2 → IfValue Small (descriptionOf s lib code second)
-    unfolding descriptionOf
-    description-small code second h =
-        cond-elim (IfValue Small) (eqb code 26) _ _ (λ _. gives tt) (λ _.
-        cond-elim (IfValue Small) (eqb code 27) _ _ (λ _. gives tt) (λ _.
-        cond-elim (IfValue Small) (eqb code 28) _ _ (λ _. answers-map _ (anything (arrayDescAt s lib (bitsOf 0 16 second))) (λ p _. tt)) (λ _.
-        cond-elim (IfValue Small) (eqb code 29) _ _ (λ _. gives tt) (λ _. gives h))))
-
     field-small : (field : ℕ) → IfValue Small (lent s (typeDescription s lib field))
-    unfolding typeDescription
-    field-small field =
-        answers-lent s _ tt (λ _.
-        cond-elim (IfValue Small) (negative field) _ _
-        (λ _. gives (omega arith))
-        (λ _. answers-bind (anything (typeDescAt s lib field)) (λ w _.
-        description-small (bitsOf 0 12 (w .first)) (w .second) (omega arith))))
+    field-small = description-cases s lib Small (λ code h. omega arith) (λ _. tt) (λ _. tt) (λ _ _ _. tt) (λ _. tt)
 
     module _ (e : Edition) (room : lib .count ≤ 256 ^ e .indexWidth) where
       abbrev n : ℕ

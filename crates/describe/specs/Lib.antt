@@ -9,6 +9,7 @@ pub mod Describe
 pub mod Call
 pub mod FieldLaws
 pub mod Answers
+pub mod Cases
 pub mod YieldLaws
 pub mod FitValues
 pub mod FitConstants
@@ -19,4 +20,6 @@ pub mod FitTypes
 pub mod Fit
 pub mod Demand3
 pub mod Refusals
+pub mod HeldLaws
+pub mod DimensionLaws
 pub mod Edges

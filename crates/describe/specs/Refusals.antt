@@ -55,7 +55,7 @@ abbrev pub Listed : ℕ → Type 0
 Listed n = T (among n numbers)
 
 -- a value, or a refusal with one of those numbers
-abbrev Sound : {A : Type 0} → Answer A → Type 0
+abbrev pub Sound : {A : Type 0} → Answer A → Type 0
 Sound = Answers Listed (λ _. Unit {0})
 
 sound-all : {A : Type 0} (xs : List (Answer A)) → Each Sound xs → Sound (all xs)
@@ -135,7 +135,7 @@ module _ (s : List ℕ) (lib : TypeLib) where
   refusing-sound n (value x) l h = gives (h x refl)
   refusing-sound n (refused m) l h = refuses l
 
-  typeinfo-sound : (i : ℕ) → Answers Listed (λ p. Holds s (p .at) (p .len) (sizeOf typeInfoBase)) (typeinfoOf s lib i)
+  pub typeinfo-sound : (i : ℕ) → Answers Listed (λ p. Holds s (p .at) (p .len) (sizeOf typeInfoBase)) (typeinfoOf s lib i)
   unfolding typeinfoIn
   typeinfo-sound i =
       let P : Place → Type 0 = λ p. Holds s (p .at) (p .len) (sizeOf typeInfoBase) in
