@@ -24,6 +24,7 @@ use Rattle.describe.specs.Fit.{Roomy, edition-one-roomy, described-fits}
 
 -- ---- the sheet of a description
 
+-- the bytes are the sheet of the library's description, and short enough
 pub record Written (e : Edition) (s : List ℕ) (room : ℕ) (bs : Bytes) : Type 0 where
   pub description : Library
   pub is : describe e s ≡ value description

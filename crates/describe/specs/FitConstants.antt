@@ -52,14 +52,11 @@ both : (a b : Bool) → T (a && b) → T a × T b
 both true b t = (tt, t)
 both false b t = absurd t
 
--- the codes that have a case of their own, those of texts and decimals first
-abbrev codes : List ℕ
-codes = 0 ∷ 1 ∷ 2 ∷ 3 ∷ 4 ∷ 5 ∷ 6 ∷ 7 ∷ 10 ∷ 11 ∷ 16 ∷ 17 ∷ 18 ∷ 19 ∷ 20 ∷ 21 ∷ 22 ∷ 23 ∷ 24 ∷ 25 ∷ 64 ∷ []
-
+-- the codes that have a case of their own: texts, decimals, and those that are numbers or nothing
 abbrev known : List ℕ
-known = 8 ∷ 14 ∷ codes
+known = 8 ∷ 14 ∷ 0 ∷ 1 ∷ 2 ∷ 3 ∷ 4 ∷ 5 ∷ 6 ∷ 7 ∷ 10 ∷ 11 ∷ 16 ∷ 17 ∷ 18 ∷ 19 ∷ 20 ∷ 21 ∷ 22 ∷ 23 ∷ 24 ∷ 25 ∷ 64 ∷ []
 
--- a code that is not known has four bytes
+-- whether a shape is four bytes, where the code is not known
 abbrev four : Bool → Shape → Bool
 four true h = true
 four false (Shape.number w) = eqb w 4
@@ -79,6 +76,7 @@ four-is Shape.empty t = absurd t
 four-is Shape.bit t = absurd t
 four-is Shape.text t = absurd t
 
+-- the rule of the table: a code that is not known has four bytes
 abbrev rule : ℕ → List Shape → Bool
 rule i [] = true
 rule i (h ∷ hs) = four (among i known) h && rule (suc i) hs
@@ -184,7 +182,7 @@ width-most vt d =
     cond-elim P (eqb vt 14) 16 4 (λ e. absurd (never (sym e ∙ d))) (λ _. omega arith))))
 
 -- an inline code is no text's and no decimal's
-pub record Inline (vt : ℕ) : Type 0 where
+record Inline (vt : ℕ) : Type 0 where
   pub small : vt < 256 ^ 2
   pub text : eqb vt 8 ≡ false
   pub decimal : eqb vt 14 ≡ false

@@ -6,20 +6,16 @@ use mathlib.Core.Bool.{Bool, true, false}
 use mathlib.Core.List.{List, [], _∷_, _++_}
 use Prim.Native.Nat.{ℕ, zero, suc, _+_, _≤_, _<_}
 use native.Mathlib.Omega.{arith}
-use lib.Dec.{leb, ltb, eqb}
-use lib.ListN.{length}
-use borrow.Author.Tests.{ltb-false}
-use Rattle.util.specs.Read.{le, read, orZero, cond-elim, read-zero}
+use Rattle.util.specs.Read.{le, read, orZero, read-zero}
 use Rattle.records.specs.declared.answer.Place.{Place}
 use Rattle.records.specs.declared.types.TypeDescription.{TypeDescription}
 use Rattle.records.specs.declared.types.TypeDescription.the-variants as type
 use Rattle.records.specs.Answer.{Answer, value, refused, bind}
 use Rattle.records.specs.Counted.{impFileSize, arrayDescSize}
 use Rattle.records.specs.Layout.{sizeOf, typeInfoBase, impInfo, impFile, arrayDesc, refRecord}
-use Rattle.records.specs.Record.{limit}
 use Rattle.records.specs.RecordLaws.{Holds}
 use Rattle.typelib.specs.declared.TypeLib.{TypeLib}
-use Rattle.typelib.specs.Header.{header, word, signature, directoryAt, parseOf}
+use Rattle.typelib.specs.Header.{header, parseOf}
 use Rattle.typelib.specs.Tables.{lent, segmentOf, placeIn, tablePlace}
 use Rattle.typelib.specs.TableLaws.{found as found-place}
 use Rattle.typelib.specs.CursorLaws.{lent-value}
@@ -33,29 +29,17 @@ use Rattle.typelib.specs.References.{internal as here, external}
 use Rattle.typelib.specs.Descriptors.{arrayDescAt, typeDescription}
 use Rattle.typelib.specs.TypeInfos.{typeinfoOf}
 use Rattle.describe.specs.Values.{fieldOf}
-use Rattle.describe.specs.Answers.{IfValue, gives, refuses, told, anything, answers-bind, answers-mono, answers-value}
+use Rattle.describe.specs.Answers.{IfValue, told, anything, answers-bind, answers-mono, answers-value}
 use Rattle.describe.specs.Cases.{resolved-cases, description-cases}
-use Rattle.describe.specs.Refusals.{typeinfo-sound}
+use Rattle.describe.specs.Refusals.{parse-sound, typeinfo-sound}
 
 module _ (s : List ℕ) where
   -- the place of a record whose fixed part is `fixed`
   abbrev pub HeldAt : ℕ → Place → Type 0
   HeldAt fixed p = Holds s (p .at) (p .len) fixed
 
-  -- ---- the header
-
   pub header-held : IfValue (λ _. Holds s 0 (sizeOf header) (sizeOf header)) (parseOf s)
-  unfolding parseOf
-  header-held =
-      let P : Answer TypeLib → Type 0 = IfValue (λ _. Holds s 0 84 84) in
-      cond-elim P (ltb limit (length s)) _ _ (λ _. refuses tt) (λ few.
-      cond-elim P (ltb (length s) 84) _ _ (λ _. refuses tt) (λ whole.
-      cond-elim P (eqb (word "magic1" s) signature) _ _
-      (λ _.
-      cond-elim P (leb 0x80000000 (word "nrtypeinfos" s)) _ _ (λ _. refuses tt) (λ _.
-      cond-elim P (ltb (length s) (directoryAt s + 240)) _ _ (λ _. refuses tt) (λ _.
-      gives (record { few = ltb-false limit (length s) few; whole = omega arith; inside = omega (arith, ltb-false (length s) 84 whole) }))))
-      (λ _. refuses tt)))
+  header-held = answers-mono (parse-sound s) (λ _ _. tt) (λ _ h. h)
 
   module _ (lib : TypeLib) where
     pub typeinfo-held : (i : ℕ) → IfValue (HeldAt (sizeOf typeInfoBase)) (typeinfoOf s lib i)

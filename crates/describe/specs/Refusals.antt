@@ -1,13 +1,15 @@
--- The numbers of a sheet call's refusal: those of document 01 but 9, "nothing there", which is part of the description.
--- Assumes nothing.
-use mathlib.Core.Path.{_≡_, refl, sym, subst}
-use mathlib.Core.Bool.{_&&_}
+-- The numbers of a sheet call's refusal: those of document 01 without 9, "nothing there", for what is not there is a part of the
+-- description; and 12, "no space", exactly where there is a description whose sheet has no room. Assumes nothing.
+use mathlib.Core.Path.{_≡_, refl, sym, _∙_, ap, subst}
+use mathlib.Core.Logic.{_↔_}
+use mathlib.Core.Bool.{Bool, true, false, cond, _&&_}
 use mathlib.Core.List.{List, [], _∷_}
 use mathlib.Core.List as list
-use Prim.Native.Nat.{ℕ, zero, suc, _+_}
+use Prim.Native.Nat.{ℕ, zero, suc, _+_, _≤_, _<_}
 use native.Mathlib.Omega.{arith}
 use lib.Dec.{T, leb, ltb, eqb}
 use lib.ListN.{length}
+use borrow.Author.Tests.{le-leb, lt-leb, leb-true, leb-false, ltb-false}
 use mir.Syntax.{w32}
 use mir.Val.{ofZ}
 use Rattle.util.specs.Read.{cond-elim}
@@ -16,7 +18,7 @@ use Rattle.records.specs.declared.func.FuncRecord.{FuncRecord}
 use Rattle.records.specs.declared.typeinfo.TypeInfoEntry.{TypeInfoEntry}
 use Rattle.records.specs.declared.types.TypeDescription.{TypeDescription}
 use Rattle.records.specs.declared.types.TypeDescription.the-variants as type
-use Rattle.records.specs.Answer.{Answer, value, refused, map}
+use Rattle.records.specs.Answer.{Answer, value, refused, map, bind}
 use Rattle.records.specs.Layout.{sizeOf, typeInfoBase, arrayDesc, parameterInfo, funcRecord, varRecord}
 use Rattle.records.specs.Record.{limit}
 use Rattle.records.specs.RecordLaws.{Holds}
@@ -26,13 +28,13 @@ use Rattle.typelib.specs.Chain.{referenceTable, implTypesOf, returnsAt, taken, 
 use Rattle.typelib.specs.Constants.{among}
 use Rattle.typelib.specs.Cursors.{funcsOf, varsOf, paramsOf}
 use Rattle.typelib.specs.Descriptors.{typeDescription}
-use Rattle.typelib.specs.Header.{word, signature, directoryAt, parseOf}
+use Rattle.typelib.specs.Header.{header, word, signature, directoryAt, parseOf}
 use Rattle.typelib.specs.Tables.{lent, negative, segmentOf, placeIn}
 use Rattle.typelib.specs.TableLaws.{found-in}
 use Rattle.typelib.specs.Tabulate.{tabulate}
 use Rattle.typelib.specs.TypeInfos.{refusing, offsetWord, typeinfoIn, typeinfoOf}
 use Rattle.description.specs.Format.{Each}
-use Rattle.description.specs.Description.{BaseShape, baseShapeOf, Tree}
+use Rattle.description.specs.Description.{Bytes, BaseShape, baseShapeOf, Tree, Library}
 use Rattle.description.specs.Description.BaseShape.{absent, parent, implTypes, aliased}
 use Rattle.description.specs.Description.Tree.{pointer, safeArray, cArray}
 use Rattle.description.specs.Sheet.{Edition, sheetBytes}
@@ -46,17 +48,29 @@ use Rattle.describe.specs.FieldLaws.{field-is}
 use Rattle.describe.specs.Answers.{Answers, gives, refuses, answers-refused, answers-bind, answers-map, answers-mono, answers-lent, answers-all, numbered-each}
 use Rattle.describe.specs.Demand3.{refusal}
 
--- over-long, short header, wrong magic, bad count, short directory, no such typeinfo, no typeinfo table, short typeinfo, circle, too
--- deep, no space, too many types
-abbrev pub numbers : List ℕ
-numbers = 1 ∷ 2 ∷ 3 ∷ 4 ∷ 5 ∷ 6 ∷ 7 ∷ 8 ∷ 10 ∷ 11 ∷ 12 ∷ 13 ∷ []
+-- over-long, short header, wrong magic, bad count, short directory, no such typeinfo, no typeinfo table, short typeinfo, circle,
+-- too deep, too many types
+abbrev pub ofDescription : List ℕ
+ofDescription = 1 ∷ 2 ∷ 3 ∷ 4 ∷ 5 ∷ 6 ∷ 7 ∷ 8 ∷ 10 ∷ 11 ∷ 13 ∷ []
+
+-- and no space
+abbrev pub ofCall : List ℕ
+ofCall = 12 ∷ ofDescription
 
 abbrev pub Listed : ℕ → Type 0
-Listed n = T (among n numbers)
+Listed n = T (among n ofDescription)
 
 -- a value, or a refusal with one of those numbers
 abbrev pub Sound : {A : Type 0} → Answer A → Type 0
 Sound = Answers Listed (λ _. Unit {0})
+
+-- or with 12
+abbrev AlsoSound : {A : Type 0} → Answer A → Type 0
+AlsoSound = Answers (λ n. T (among n ofCall)) (λ _. Unit {0})
+
+also-sound : {A : Type 0} {x : Answer A} → Sound x → AlsoSound x
+also-sound (gives h) = gives h
+also-sound (refuses {n = n} h) = refuses (cond-elim T (eqb n 12) true (among n ofDescription) (λ _. tt) (λ _. h))
 
 sound-all : {A : Type 0} (xs : List (Answer A)) → Each Sound xs → Sound (all xs)
 sound-all xs h = answers-mono (answers-all xs h) (λ n k. k) (λ ys _. tt)
@@ -163,18 +177,21 @@ module _ (s : List ℕ) (lib : TypeLib) where
 
 -- ---- the library and the call
 
-module _ (e : Edition) (s : List ℕ) where
-  parse-sound : Sound (parseOf s)
-  unfolding parseOf
-  parse-sound =
-      cond-elim Sound (ltb limit (length s)) _ _ (λ _. refuses tt) (λ _.
-      cond-elim Sound (ltb (length s) 84) _ _ (λ _. refuses tt) (λ _.
-      cond-elim Sound (eqb (word "magic1" s) signature) _ _
-      (λ _.
-      cond-elim Sound (leb 0x80000000 (word "nrtypeinfos" s)) _ _ (λ _. refuses tt) (λ _.
-      cond-elim Sound (ltb (length s) (directoryAt s + 240)) _ _ (λ _. refuses tt) (λ _. gives tt)))
-      (λ _. refuses tt)))
+-- a library is refused with 1 to 5, or its header is held
+pub parse-sound : (s : List ℕ) → Answers Listed (λ _. Holds s 0 (sizeOf header) (sizeOf header)) (parseOf s)
+unfolding parseOf
+parse-sound s =
+    let P : Answer TypeLib → Type 0 = Answers Listed (λ _. Holds s 0 84 84) in
+    cond-elim P (ltb limit (length s)) _ _ (λ _. refuses tt) (λ few.
+    cond-elim P (ltb (length s) 84) _ _ (λ _. refuses tt) (λ whole.
+    cond-elim P (eqb (word "magic1" s) signature) _ _
+    (λ _.
+    cond-elim P (leb 0x80000000 (word "nrtypeinfos" s)) _ _ (λ _. refuses tt) (λ _.
+    cond-elim P (ltb (length s) (directoryAt s + 240)) _ _ (λ _. refuses tt) (λ _.
+    gives (record { few = ltb-false limit (length s) few; whole = omega arith; inside = omega (arith, ltb-false (length s) 84 whole) }))))
+    (λ _. refuses tt)))
 
+module _ (e : Edition) (s : List ℕ) where
   as-sound : (lib : TypeLib) → Sound (describeAs e s lib)
   unfolding describeAs
   as-sound lib =
@@ -184,17 +201,61 @@ module _ (e : Edition) (s : List ℕ) where
 
   pub describe-sound : Sound (describe e s)
   unfolding describe
-  describe-sound = answers-bind parse-sound (λ lib _. as-sound lib)
+  describe-sound = answers-bind (parse-sound s) (λ lib _. as-sound lib)
 
-  sheet-sound : (room : ℕ) → Sound (sheetOf e s room)
+  sheet-sound : (room : ℕ) → AlsoSound (sheetOf e s room)
   unfolding sheetOf within
   sheet-sound room =
-      answers-bind describe-sound (λ d _.
-      cond-elim Sound (leb (length (sheetBytes e d)) limit && leb (length (sheetBytes e d)) room) _ _ (λ _. gives tt) (λ _. refuses tt))
+      answers-bind (also-sound describe-sound) (λ d _.
+      cond-elim AlsoSound (leb (length (sheetBytes e d)) limit && leb (length (sheetBytes e d)) room) _ _ (λ _. gives tt) (λ _. refuses tt))
 
   module _ {o o′ : List ℕ} {n : ℕ} (c : Call e s o (refused n) o′) where
-    pub refusal-listed : Listed n
+    pub refusal-listed : T (among n ofCall)
     refusal-listed = answers-refused (sheet-sound (length o)) (refusal c refl .1)
 
     pub never-nine : n ≡ 9 → ⊥
     never-nine q = rw q at refusal-listed
+
+-- ---- 12 comes last
+
+-- the library has a description, and its sheet is longer than the limit or than the room
+pub record NoSpace (e : Edition) (s : List ℕ) (room : ℕ) : Type 0 where
+  pub description : Library
+  pub is : describe e s ≡ value description
+  pub long : length (sheetBytes e description) ≤ limit → room < length (sheetBytes e description)
+
+module _ (e : Edition) (s : List ℕ) {o o′ : List ℕ} {r : Answer ℕ} (c : Call e s o r o′) where
+  out-of-space : r ≡ refused 12 → NoSpace e s (length o)
+  unfolding sheetOf within
+  out-of-space h = by (describe e s) refl (refusal c h .1)
+    where
+      by : (a : Answer Library) → describe e s ≡ a → bind a (λ d. within (length o) (sheetBytes e d)) ≡ refused 12 → NoSpace e s (length o)
+      by (value d) k =
+          let n : ℕ = length (sheetBytes e d) in
+          cond-elim (λ (x : Answer Bytes). x ≡ refused 12 → NoSpace e s (length o)) (leb n limit && leb n (length o)) _ _
+          (λ _ q. absurd (let z : _≡_ {A = ℕ} 0 1 = cc in omega arith))
+          (λ f _. record {
+            description = d;
+            is = k;
+            long = λ l. leb-false n (length o) (rw (le-leb n limit l) at f);
+          })
+      by (refused m) k = λ q.
+          let z : m ≡ 12 = cc in
+          absurd (rw z at (answers-refused (describe-sound e s) k))
+
+  no-room : NoSpace e s (length o) → r ≡ refused 12
+  unfolding sheetOf within
+  no-room h =
+      let bs : Bytes = sheetBytes e (h .description) in
+      c .replies
+      ∙ ap (λ (a : Answer Library). map length (bind a (λ d. within (length o) (sheetBytes e d)))) (h .is)
+      ∙ by bs (leb (length bs) limit) refl (h .long)
+    where
+      by : (bs : Bytes) (b : Bool) → leb (length bs) limit ≡ b → (length bs ≤ limit → length o < length bs)
+          → map length (cond (b && leb (length bs) (length o)) (value bs) (refused 12)) ≡ refused 12
+      by bs true q l = rw (lt-leb (length bs) (length o) (l (leb-true (length bs) limit q)))
+      by bs false q l = refl
+
+  -- THE CALL REPLIES 12 exactly if that is so
+  pub no-space : (r ≡ refused 12) ↔ NoSpace e s (length o)
+  no-space = (out-of-space, no-room)
