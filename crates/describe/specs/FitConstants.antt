@@ -98,7 +98,7 @@ shape-raw vt e =
 -- ---- a constant that holds a number
 
 -- the bits of a signed number
-signed-lt : (w : Width) (n : ℕ) → n < 2 ^ bits w → ofZ w (toZ w n) < 2 ^ bits w
+pub signed-lt : (w : Width) (n : ℕ) → n < 2 ^ bits w → ofZ w (toZ w n) < 2 ^ bits w
 signed-lt w n h = rw (ofZ-toZ w n (record { fits = h })) h
 
 low-lt : (k v : ℕ) → low k v < 2 ^ k

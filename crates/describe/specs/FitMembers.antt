@@ -20,7 +20,7 @@ use Rattle.records.specs.declared.typeinfo.TypeInfoEntry.{TypeInfoEntry}
 use Rattle.records.specs.Answer.{Answer, value, refused, map}
 use Rattle.records.specs.Attributes.{atLeastZero, argumentCount, defaultValueOffset}
 use Rattle.records.specs.Layout.{sizeOf, parameterInfo, funcRecord, varRecord}
-use Rattle.records.specs.Record.{field, bitsOf, recordPlace, flagSet}
+use Rattle.records.specs.Record.{field, signed32, bitsOf, recordPlace, flagSet}
 use Rattle.typelib.specs.declared.TypeLib.{TypeLib}
 use Rattle.typelib.specs.declared.typeinfos.Counts.{Counts}
 use Rattle.typelib.specs.declared.iterators.FuncCursor.{FuncCursor}
@@ -34,12 +34,12 @@ use Rattle.description.specs.Sheet.{Edition, u16, u32, constant, variableValue,
 use Rattle.description.specs.Format.IfAny.{missing}
 use Rattle.description.specs.Fit.{opt-fits, list-fits}
 use Rattle.describe.specs.Values.{fieldOf, all, numbered}
-use Rattle.describe.specs.Members.{funcRecords, varRecords, paramRecords, hasDefault, constantBy, defaultOf, parameterWith, parameterOf, parametersOf, functionWith, functionOf, functionsOf, valueWith, variableWith, variableOf, variablesOf}
+use Rattle.describe.specs.Members.{funcRecords, varRecords, paramRecords, memidBy, hasDefault, constantBy, defaultOf, parameterWith, parameterOf, parametersOf, functionWith, functionOf, functionsOf, valueWith, variableWith, variableOf, variablesOf}
 use Rattle.describe.specs.FieldLaws.{Octets, field-lt}
 use Rattle.describe.specs.Answers.{IfValue, anything, answers-value, answers-bind, answers-map, answers-mono, answers-all, if-found, numbered-each, numbered-length}
 use Rattle.describe.specs.YieldLaws.{yields-most}
 use Rattle.describe.specs.FitValues.{word-fits, name-fits, name-by-fits}
-use Rattle.describe.specs.FitConstants.{const-fits}
+use Rattle.describe.specs.FitConstants.{signed-lt, const-fits}
 use Rattle.describe.specs.FitTrees.{tree-fits}
 
 -- ---- how many records there are
@@ -132,6 +132,11 @@ module _ (s : List ℕ) (octets : Octets s) where
       answers-bind (anything (ofTypeInfo "memoffset" s ti)) (λ m _.
       answers-bind (anything (blockAt s m)) (λ block _. word-fits s octets (block .at + block .len + 4 * (first c + i)))))
 
+  memid-fits : (first : Counts → ℕ) (ti : TypeInfoEntry) (i : ℕ) → Fits (opt u32) (memidBy (signed32 (memberWord first s ti i)))
+  unfolding memidBy
+  memid-fits first ti i =
+      opt-fits u32 (if-found (answers-map (ofZ w32) (answers-map {Q = λ z. ofZ w32 z < 256 ^ 4} (toZ w32) (member-word first ti i) (λ n h. signed-lt w32 n h)) (λ z h. h)))
+
   module _ (lib : TypeLib) (e : Edition) (room : lib .count ≤ 256 ^ e .indexWidth) where
     abbrev n : ℕ
     n = lib .count
@@ -143,7 +148,7 @@ module _ (s : List ℕ) (octets : Octets s) where
     default-fits : (flags : ℕ) (a : Answer ℤ) → Fits (opt constant) (defaultOf s lib flags a)
     unfolding defaultOf
     default-fits flags a =
-        cond-elim (Fits (opt constant)) (flagSet (hasDefault s lib) flags) _ _ (λ _. by-fits a) (λ _. opt-fits constant missing)
+        cond-elim (Fits (opt constant)) (flagSet hasDefault flags) _ _ (λ _. by-fits a) (λ _. opt-fits constant missing)
 
     parameter-fits : (f : FuncRecord) (i : ℕ) (p : Place) → IfValue (Fits (parameter e n)) (parameterOf s lib f i p)
     unfolding parameterOf parameter
@@ -170,9 +175,9 @@ module _ (s : List ℕ) (octets : Octets s) where
     function-fits ti i p =
         answers-bind (tree-fits s octets lib e room (fieldOf funcRecord "DataType" s (p .at))) (λ t h.
         answers-map (functionWith s lib ti i (p .at) t) (parameters-fit (record { at = p .at; len = p .len })) (λ ps k. (
-          opt-fits u32 (if-found (member-word (λ c. 0) ti i)),
+          memid-fits (λ c. 0) ti i,
           (
-            name-by-fits s octets lib (funcNameOffset s ti i),
+            name-by-fits s octets lib (signed32 (funcNameOffset s ti i)),
             (
               h,
               (
@@ -203,9 +208,9 @@ module _ (s : List ℕ) (octets : Octets s) where
     unfolding variableOf variable
     variable-fits ti i p =
         answers-map (variableWith s lib ti i (p .at)) (tree-fits s octets lib e room (fieldOf varRecord "DataType" s (p .at))) (λ t h. (
-          opt-fits u32 (if-found (member-word (λ c. c .funcs) ti i)),
+          memid-fits (λ c. c .funcs) ti i,
           (
-            name-by-fits s octets lib (varNameOffset s ti i),
+            name-by-fits s octets lib (signed32 (varNameOffset s ti i)),
             (
               h,
               (

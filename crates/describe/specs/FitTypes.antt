@@ -77,7 +77,7 @@ module _ (s : List ℕ) (octets : Octets s) (lib : TypeLib) (e : Edition) (room 
   unfolding typeAt typeInfo
   at-fits ti =
       let at : ℕ = ti .at in
-      answers-bind (base-fits ti (baseShapeOf (kindAt s lib at))) (λ under b.
+      answers-bind (base-fits ti (baseShapeOf (kindAt s at))) (λ under b.
       answers-bind (functions-fit s octets lib e room ti) (λ functions f.
       answers-map (typeWith s lib at under functions) (variables-fit s octets lib e room ti) (λ variables v. (
         (omega arith, omega arith),

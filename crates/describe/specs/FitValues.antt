@@ -5,6 +5,9 @@ use mathlib.Core.List.{List, [], _∷_}
 use Prim.Native.Nat.{ℕ, zero, suc, _+_, _^_, _≤_, _<_}
 use native.Mathlib.Omega.{arith}
 use lib.Dec.{leb}
+use lib.IntN.{ℤ}
+use mir.Syntax.{w32}
+use mir.Val.{ofZ}
 use lib.ListN.{length, take, drop, length-drop}
 use lib.Seq.{length-take-le, getD-drop}
 use borrow.Author.Tests.{le-leb, leb-true}
@@ -103,6 +106,6 @@ module _ (s : List ℕ) where
       unfolding nameOf
       name-fits x = opt-fits name (if-found (name-bytes x))
 
-      pub name-by-fits : (a : Answer ℕ) → Fits (opt name) (nameBy s lib a)
+      pub name-by-fits : (a : Answer ℤ) → Fits (opt name) (nameBy s lib a)
       unfolding nameBy
-      name-by-fits a = opt-fits name (if-found (answers-bind (anything a) (λ x _. name-bytes x)))
+      name-by-fits a = opt-fits name (if-found (answers-bind (anything a) (λ x _. name-bytes (ofZ w32 x))))

@@ -51,6 +51,10 @@ unfoldable pub paramRecords : List ℕ → Answer ParamCursor → List Place
 paramRecords s (value c) = yields (paramStep s) (c .remaining) c
 paramRecords s (refused n) = []
 
+-- PARAMFLAG_FHASDEFAULT (Microsoft's oaidl.h)
+abbrev pub hasDefault : ℕ
+hasDefault = 0x20
+
 -- an identifier that a reading answers as a signed number
 unfoldable pub memidBy : Answer ℤ → Option ℕ
 memidBy memid = found (map (ofZ w32) memid)
@@ -66,15 +70,11 @@ module _ (s : List ℕ) (lib : TypeLib) where
 
   -- ---- parameters
 
-  -- PARAMFLAG_FHASDEFAULT (Microsoft's oaidl.h): "The constant is read if flag 0x20 is set at 0x08 and `default_value_offset`
-  -- gives one; else nothing."
-  abbrev pub hasDefault : ℕ
-  hasDefault = 0x20
-
   abbrev pub constantBy : Answer ℤ → Option Constant
   constantBy (value z) = constantOf s lib (ofZ w32 z)
   constantBy (refused n) = none
 
+  -- "The constant is read if flag 0x20 is set at 0x08 and `default_value_offset` gives one; else nothing."
   unfoldable pub defaultOf : ℕ → Answer ℤ → Option Constant
   defaultOf flags offset = cond (flagSet hasDefault flags) (constantBy offset) none
 

@@ -166,7 +166,7 @@ module _ (s : List ℕ) (lib : TypeLib) where
   type-sound i =
       answers-bind (typeinfo-sound i) (λ p h.
       let ti : TypeInfoEntry = record { at = p .at; len = p .len } in
-      answers-bind (base-sound ti h (baseShapeOf (kindAt s lib (ti .at)))) (λ under _.
+      answers-bind (base-sound ti h (baseShapeOf (kindAt s (ti .at)))) (λ under _.
       answers-bind (functions-sound ti) (λ functions _.
       answers-map (typeWith s lib (ti .at) under functions) (variables-sound ti) (λ _ _. tt))))
 

@@ -17,6 +17,10 @@ use Rattle.describe.specs.References.{guidOf, referenceOf}
 use Rattle.describe.specs.Trees.{treeOf}
 use Rattle.describe.specs.Members.{nameOf, functionsOf, variablesOf}
 
+-- "low four bits of 0x00"
+abbrev pub kindAt : List ℕ → ℕ → ℕ
+kindAt s at = bitsOf 0 4 (fieldOf typeInfoBase "typekind" s at)
+
 module _ (s : List ℕ) (lib : TypeLib) where
   -- ---- the base
 
@@ -36,14 +40,10 @@ module _ (s : List ℕ) (lib : TypeLib) where
 
   -- ---- the type
 
-  -- "low four bits of 0x00"
-  abbrev pub kindAt : ℕ → ℕ
-  kindAt at = bitsOf 0 4 (fieldOf typeInfoBase "typekind" s at)
-
-  abbrev pub typeWith : (at : ℕ) → Base (baseShapeOf (kindAt at)) → List Function → List Variable → TypeInfo
+  abbrev pub typeWith : (at : ℕ) → Base (baseShapeOf (kindAt s at)) → List Function → List Variable → TypeInfo
   typeWith at under functions variables =
       record {
-        kind = kindAt at;
+        kind = kindAt s at;
         flags = fieldOf typeInfoBase "flags" s at;
         version = fieldOf typeInfoBase "version" s at;
         guid = guidOf s lib (fieldOf typeInfoBase "posguid" s at);
@@ -58,7 +58,7 @@ module _ (s : List ℕ) (lib : TypeLib) where
   -- the base, the functions and the variables are looked at in this order
   unfoldable pub typeAt : TypeInfoEntry → Answer TypeInfo
   typeAt ti =
-      bind (baseOf ti (baseShapeOf (kindAt (ti .at)))) (λ under.
+      bind (baseOf ti (baseShapeOf (kindAt s (ti .at)))) (λ under.
       bind (all (functionsOf s lib ti)) (λ functions.
       map (typeWith (ti .at) under functions) (all (variablesOf s lib ti))))
 
