@@ -1,12 +1,12 @@
 -- The two's complement of a number, for every width. Assumes nothing.
 use mathlib.Core.Path.{_≡_}
 use mathlib.Core.Bool.{true, false}
-use Prim.Native.Nat.{ℕ, _-_, _≤_, _<_, _^_}
+use Prim.Native.Nat.{ℕ, _-_, _<_, _^_}
 use native.Mathlib.Omega.{arith}
 use lib.IntN.{ℤ, pos, negsuc}
 use lib.Signed.{ltZ}
 use mir.Syntax.{Width}
-use mir.Val.{bits, hbits, SFits, Fits, toZ, ofZ}
+use mir.Val.{bits, SFits, toZ, ofZ}
 use mir.ValLaws.{toZ-ofZ, toZ-pos, ofZ-fits, pow-bits}
 use borrow.Author.Tests.{ltb-true}
 
@@ -30,9 +30,6 @@ module _ (w : Width) where
       let z : _≡_ {A = ℕ} 0 1 = cc in
       absurd (omega arith)
 
-  -- the bits are at most the largest number, and the complement of their complement
-  pub within : (x : ℤ) → SFits w x → ofZ w x ≤ most
-  within x f = let h : ofZ w x < 2 ^ bits w = ofZ-fits w x f .fits in omega arith
-
+  -- the bits are the complement of their complement
   pub twice : (x : ℤ) → SFits w x → most - (most - ofZ w x) ≡ ofZ w x
-  twice x f = let h = within x f in omega arith
+  twice x f = let h : ofZ w x < 2 ^ bits w = ofZ-fits w x f .fits in omega arith

@@ -1,6 +1,5 @@
 -- The bytes of a constant, as they are emitted. Assumes nothing.
 use mathlib.Core.Path.{_≡_, refl, sym, ap, _∙_}
-use mathlib.Core.Option.{some, none}
 use mathlib.Core.List.{List, [], _∷_, _++_, map}
 use Prim.Native.Nat.{ℕ, _^_, _≤_, _<_}
 use native.Mathlib.Omega.{arith}
@@ -23,29 +22,46 @@ use Rattle.description.specs.Format.{encode, leBytes, opt}
 use Rattle.description.specs.Description.{Bytes, Shape, shapes, shapeOf}
 use Rattle.description.specs.Sheet.{bit, constant}
 use Rattle.description.specs.ByteLayout.{opt-none, opt-some, null-bytes, text-bytes}
-use Rattle.describe.specs.Values.{found, bytesIn}
+use Rattle.describe.specs.Values.{bytesIn}
 use Rattle.describe.specs.Constants.{Content, contentOf, numberIn, placeIn, orEmpty, constantFrom, constantOf}
 use Rattle.sheet_constants.specs.declared.Shape.{Shape as Cell}
+use Rattle.sheet_constants.specs.declared.Shape.the-variants as cell
 use Rattle.sheet_constants.specs.Told.{toldShape}
 use Rattle.sheet_constants.specs.Bytes.{textBytes, valueBytes}
 
--- the content of a constant that a match took apart
+-- ---- what a constant holds
+
+-- of a constant that a match took apart
 pub content-is : {v w : ConstValue} → v ≡ w → contentOf w ≡ contentOf v
 content-is e = ap contentOf (sym e)
 
--- the bits of a signed number that was read from its bits
-pub signed-digits : (w : Width) (x : ℤ) {n : ℕ} → mag x < 2 ^ hbits w → n ≡ ofZ w (toZ w (ofZ w x)) → Content.digits n ≡ Content.digits (ofZ w x)
+-- a signed number, which a call takes by its bits
+pub signed-digits : (w : Width) (x : ℤ) {n : ℕ} → mag x < 2 ^ hbits w → n ≡ ofZ w (toZ w (ofZ w x))
+    → Content.digits n ≡ Content.digits (ofZ w x)
 signed-digits w x h e = ap Content.digits (e ∙ ap (ofZ w) (toZ-ofZ w x (record { sfits = h })))
 
 -- ---- the shape of a code
 
--- in the table, whose cells tell the shapes of the description
-pub shape-listed : (cells : List Cell) → map toldShape cells ≡ shapes → (code : ℕ) (d : Cell) → code < length shapes
-    → toldShape (getD cells code d) ≡ shapeOf code
-shape-listed cells e code d h =
-    sym (List·getD-map toldShape cells code d)
-    ∙ ap (λ l. getD l code (toldShape d)) e
-    ∙ getD-any shapes code (toldShape d) (Shape.number 4) h
+-- the cell that tells a shape
+abbrev pub cellOf : Shape → Cell
+cellOf Shape.empty = cell.Empty
+cellOf (Shape.number w) = cell.Number w
+cellOf Shape.bit = cell.Bit
+cellOf (Shape.octets k) = cell.Octets k
+cellOf Shape.text = cell.Text
+
+told-cell : (h : Shape) → toldShape (cellOf h) ≡ h
+told-cell Shape.empty = refl
+told-cell (Shape.number w) = refl
+told-cell Shape.bit = refl
+told-cell (Shape.octets k) = refl
+told-cell Shape.text = refl
+
+-- in the table, which has a cell for each shape of the description's list
+pub shape-listed : (code : ℕ) (d : Cell) → code < length shapes → toldShape (getD (map cellOf shapes) code d) ≡ shapeOf code
+shape-listed code d h =
+    ap toldShape (getD-any (map cellOf shapes) code d (cellOf (Shape.number 4)) h ∙ List·getD-map cellOf shapes code (Shape.number 4))
+    ∙ told-cell (getD shapes code (Shape.number 4))
     ∙ rw (ne-eqb code 64 (λ k. omega arith))
 
 -- and beyond it

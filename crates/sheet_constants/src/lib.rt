@@ -37,7 +37,7 @@ pub enum Shape {
     Text,
 }
 
-// The shapes of the codes 0 to 25.
+// The shapes of the codes 0 to 25, in order.
 const SHAPES: [Shape; 26] = [
     Shape::Empty,
     Shape::Empty,

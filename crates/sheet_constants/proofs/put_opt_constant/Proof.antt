@@ -5,49 +5,34 @@ use Rattle.records.specs.AnswerLaws.{tells}
 use borrow.Author.Needs.{needs}
 use Rattle.sheet_constants.proofs.put_opt_constant.Statement.{statement}
 use Rattle.sheet_constants.proofs.put_opt_constant.Tie as tie
-use Rattle.sheet_constants.proofs.put_opt_constant.Reads as reads
-use Rattle.sheet_constants.proofs.put_opt_constant.Lts as lts
-use Rattle.emit.proofs.put_u8.Reads as put-u8-reads
-use Rattle.sheet_constants.proofs.put_constant.Reads as put-constant-reads
-use Rattle.typelib.proofs.TypeLib.const_at.Reads as const-at-reads
 
--- src/lib.rt:183:11
 const-at-requires : tie.Need-const-at-requires
 const-at-requires c κs = search needs
 
--- src/lib.rt:184:28
 enum-known-v : tie.Need-enum-known-v
 enum-known-v c = search needs
 
--- src/lib.rt:185:17
 put-u8-requires : tie.Need-put-u8-requires
 put-u8-requires c κs = search needs
 
--- src/lib.rt:186:13
 put-constant-requires : tie.Need-put-constant-requires
 put-constant-requires c κs = search needs
 
--- src/lib.rt:188:49
 enum-told : tie.Need-enum-told
 enum-told c = search needs
 
--- src/lib.rt:188:36
 put-u8-requires-2 : tie.Need-put-u8-requires-2
 put-u8-requires-2 c κs = search needs
 
--- src/lib.rt:180:1
 same-length : tie.Need-same-length
 same-length c = search needs
 
--- src/lib.rt:180:1
 returns : tie.Need-returns
 returns c = known (some-laid _ _ _ (tells toldConst (c .before .before .before .before .before .before .before .before .before .v .given .1) (c .before .before .before .before .before .before .before .before .before .before .before .const-at .ensures))) (join (c .before .before .before .before .before .before .put-u8 .ensures) (c .before .before .put-constant .ensures))
 
--- src/lib.rt:180:1
 same-length-2 : tie.Need-same-length-2
 same-length-2 c = search needs
 
--- src/lib.rt:180:1
 returns-2 : tie.Need-returns-2
 returns-2 c = known (none-laid _ _ _ (tells toldConst (c .before .before .before .before .enum-told .given .1) (c .before .before .before .before .before .before .const-at .ensures))) (c .before .before .put-u82 .ensures)
 

@@ -5,104 +5,73 @@ use mathlib.Core.Path.{ap}
 use borrow.Author.Needs.{needs}
 use Rattle.sheet_constants.proofs.put_value.Statement.{statement}
 use Rattle.sheet_constants.proofs.put_value.Tie as tie
-use Rattle.sheet_constants.proofs.put_value.Reads as reads
-use Rattle.sheet_constants.proofs.put_value.Lts as lts
-use Rattle.emit.proofs.put_bytes.Reads as put-bytes-reads
-use Rattle.emit.proofs.put_le.Reads as put-le-reads
-use Rattle.records.proofs.answer.part.Reads as part-reads
-use Rattle.sheet_constants.proofs.number_in.Reads as number-in-reads
-use Rattle.sheet_constants.proofs.place_in.Reads as place-in-reads
-use Rattle.sheet_constants.proofs.put_text.Reads as put-text-reads
 
--- src/lib.rt:162:25
 enum-told : tie.Need-enum-told
 enum-told c = search needs
 
--- src/lib.rt:163:23
 enum-known-shape : tie.Need-enum-known-shape
 enum-known-shape c = search needs
 
--- src/lib.rt:163:55
 number-in-requires : tie.Need-number-in-requires
 number-in-requires c κs = search needs
 
--- src/lib.rt:163:33
 put-le-requires : tie.Need-put-le-requires
 put-le-requires c κs = search needs
 
--- src/lib.rt:164:36
 enum-told-2 : tie.Need-enum-told-2
 enum-told-2 c = search needs
 
--- src/lib.rt:164:45
 number-in-requires-2 : tie.Need-number-in-requires-2
 number-in-requires-2 c κs = search needs
 
--- src/lib.rt:164:23
 put-le-requires-2 : tie.Need-put-le-requires-2
 put-le-requires-2 c κs = search needs
 
--- src/lib.rt:165:61
 enum-told-3 : tie.Need-enum-told-3
 enum-told-3 c = search needs
 
--- src/lib.rt:165:61
 place-in-requires : tie.Need-place-in-requires
 place-in-requires c κs = search needs
 
--- src/lib.rt:165:45
 part-requires : tie.Need-part-requires
 part-requires c κs = search needs
 
--- src/lib.rt:165:29
 put-bytes-requires : tie.Need-put-bytes-requires
 put-bytes-requires c κs = search needs
 
--- src/lib.rt:166:36
 enum-told-4 : tie.Need-enum-told-4
 enum-told-4 c = search needs
 
--- src/lib.rt:166:36
 place-in-requires-2 : tie.Need-place-in-requires-2
 place-in-requires-2 c κs = search needs
 
--- src/lib.rt:166:24
 put-text-requires : tie.Need-put-text-requires
 put-text-requires c κs = search needs
 
--- src/lib.rt:158:1
 returns : tie.Need-returns
 returns c = known (empty-laid _ _ (ap toldShape (c .enum-told .given .1))) (skip _ _)
 
--- src/lib.rt:158:1
 same-length : tie.Need-same-length
 same-length c = search needs
 
--- src/lib.rt:158:1
 returns-2 : tie.Need-returns-2
 returns-2 c = known (number-laid _ _ (ap toldShape (c .before .before .before .before .before .before .shape .given .1)) (c .before .before .before .number-in .ensures)) (c .before .before .put-le .ensures)
 
--- src/lib.rt:158:1
 same-length-2 : tie.Need-same-length-2
 same-length-2 c = search needs
 
--- src/lib.rt:158:1
 returns-3 : tie.Need-returns-3
 returns-3 c = known (bit-laid _ _ (ap toldShape (c .before .before .before .before .before .enum-told2 .given .1)) (c .before .before .before .number-in2 .ensures)) (c .before .before .put-le2 .ensures)
 
--- src/lib.rt:158:1
 same-length-3 : tie.Need-same-length-3
 same-length-3 c = search needs
 
--- src/lib.rt:158:1
 returns-4 : tie.Need-returns-4
 returns-4 c = known (octets-laid _ _ (ap toldShape (c .before .before .before .before .before .before .enum-told3 .given .1)) (c .before .before .before .before .before .place-in .ensures) (c .before .before .before .before .part .ensures)) (c .before .before .put-bytes .ensures)
 
--- src/lib.rt:158:1
 same-length-4 : tie.Need-same-length-4
 same-length-4 c = search needs
 
--- src/lib.rt:158:1
 returns-5 : tie.Need-returns-5
 returns-5 c = known (shown-laid _ _ (ap toldShape (c .before .before .before .before .before .enum-told4 .given .1)) (c .before .before .before .before .place-in2 .ensures)) (c .before .before .put-text .ensures)
 

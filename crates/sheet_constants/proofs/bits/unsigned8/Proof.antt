@@ -1,29 +1,22 @@
 use mir.ValLaws.{ofZ-fits}
 use mir.Syntax.{w8}
 use native.Mathlib.Omega.{arith}
-use Rattle.sheet_constants.proofs.Twos.{negative, other, within, twice}
+use Rattle.sheet_constants.proofs.Twos.{negative, other, twice}
 use Rattle.sheet_constants.proofs.bits.unsigned8.Statement.{statement}
 use Rattle.sheet_constants.proofs.bits.unsigned8.Tie as tie
-use Rattle.sheet_constants.proofs.bits.unsigned8.Reads as reads
-use Rattle.sheet_constants.proofs.bits.unsigned8.Lts as lts
 
--- src/bits.rt:15:17
 cast-result : tie.Need-cast-result
 cast-result c = rw (negative w8 (c .before .args .x) (c .before .fits .x) (c .if1 .taken)) (tt, record { fits = omega arith })
 
--- src/bits.rt:15:9
 sub-result : tie.Need-sub-result
 sub-result c = rw (negative w8 (c .before .args .x) (c .before .fits .x) (c .if1 .taken)) (omega arith)
 
--- src/bits.rt:17:9
 cast-result-2 : tie.Need-cast-result-2
 cast-result-2 c = rw (other w8 (c .before .args .x) (c .before .fits .x) (c .if1 .left)) (tt, ofZ-fits w8 (c .before .args .x) (c .before .fits .x))
 
--- src/bits.rt:11:1
 returns : tie.Need-returns
 returns c = rw (negative w8 (c .before .args .x) (c .before .fits .x) (c .if1 .taken)) (twice w8 (c .before .args .x) (c .before .fits .x))
 
--- src/bits.rt:11:1
 returns-2 : tie.Need-returns-2
 returns-2 c = rw (other w8 (c .before .args .x) (c .before .fits .x) (c .if1 .left))
 
