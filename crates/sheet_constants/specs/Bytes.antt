@@ -1,4 +1,4 @@
--- The bytes of a constant's value, by its content and its shape. Assumes nothing.
+-- The bytes of a constant's value, by its content and its shape, and the marks of shapes. Assumes nothing.
 use mathlib.Core.List.{List}
 use Prim.Native.Nat.{ℕ}
 use Rattle.records.specs.declared.answer.Place.{Place}
@@ -9,7 +9,15 @@ use Rattle.description.specs.Sheet.{value}
 use Rattle.describe.specs.Values.{found, bytesIn}
 use Rattle.describe.specs.Constants.{Content, valueOf}
 
--- of the text at a place; null where there is none
+-- a shape in one byte: how many bytes the value has, or a letter
+abbrev pub markOf : Shape → ℕ
+markOf Shape.empty = 0
+markOf (Shape.number w) = w
+markOf Shape.bit = 98  -- b
+markOf (Shape.octets k) = k
+markOf Shape.text = 116  -- t
+
+-- the bytes of the text at a place; null where there is none
 unfoldable pub textBytes : List ℕ → Answer Place → Bytes
 textBytes s p = encode (value Shape.text) (found (bytesIn s p))
 

@@ -1,8 +1,10 @@
 -- The bytes of a constant, as they are emitted. Assumes nothing.
 use mathlib.Core.Path.{_≡_, refl, sym, ap, _∙_}
+use mathlib.Core.Bool.{cond}
 use mathlib.Core.List.{List, [], _∷_, _++_, map}
 use Prim.Native.Nat.{ℕ, _^_, _≤_, _<_}
 use native.Mathlib.Omega.{arith}
+use lib.Dec.{eqb}
 use lib.ListN.{length, getD, List·getD-map, List·getD-eq-default}
 use lib.IntN.{ℤ}
 use lib.Signed.{mag}
@@ -10,6 +12,7 @@ use mir.Syntax.{Width}
 use mir.Val.{hbits, toZ, ofZ}
 use mir.ValLaws.{toZ-ofZ}
 use borrow.Author.Tests.{ne-eqb}
+use Rattle.util.specs.Read.{cond-elim}
 use Rattle.records.specs.declared.answer.Place.{Place}
 use Rattle.records.specs.declared.types.ConstValue.{ConstValue}
 use Rattle.records.specs.Answer.{Answer, value, refused}
@@ -24,10 +27,7 @@ use Rattle.description.specs.Sheet.{bit, constant}
 use Rattle.description.specs.ByteLayout.{opt-none, opt-some, null-bytes, text-bytes}
 use Rattle.describe.specs.Values.{bytesIn}
 use Rattle.describe.specs.Constants.{Content, contentOf, numberIn, placeIn, orEmpty, constantFrom, constantOf}
-use Rattle.sheet_constants.specs.declared.Shape.{Shape as Cell}
-use Rattle.sheet_constants.specs.declared.Shape.the-variants as cell
-use Rattle.sheet_constants.specs.Told.{toldShape}
-use Rattle.sheet_constants.specs.Bytes.{textBytes, valueBytes}
+use Rattle.sheet_constants.specs.Bytes.{markOf, textBytes, valueBytes}
 
 -- ---- what a constant holds
 
@@ -42,34 +42,37 @@ signed-digits w x h e = ap Content.digits (e ∙ ap (ofZ w) (toZ-ofZ w x (record
 
 -- ---- the shape of a code
 
--- the cell that tells a shape
-abbrev pub cellOf : Shape → Cell
-cellOf Shape.empty = cell.Empty
-cellOf (Shape.number w) = cell.Number w
-cellOf Shape.bit = cell.Bit
-cellOf (Shape.octets k) = cell.Octets k
-cellOf Shape.text = cell.Text
+-- f of the shape of a code
+module _ {A : Type 0} (f : Shape → A) (code : ℕ) where
+  -- in the table, which has a cell for each shape of the description's list
+  pub listed : (d : A) → code < length shapes → getD (map f shapes) code d ≡ f (shapeOf code)
+  listed d h =
+      getD-any (map f shapes) code d (f (Shape.number 4)) h
+      ∙ List·getD-map f shapes code (Shape.number 4)
+      ∙ rw (ne-eqb code 64 (λ k. omega arith))
 
-told-cell : (h : Shape) → toldShape (cellOf h) ≡ h
-told-cell Shape.empty = refl
-told-cell (Shape.number w) = refl
-told-cell Shape.bit = refl
-told-cell (Shape.octets k) = refl
-told-cell Shape.text = refl
+  -- and beyond it
+  pub file-time : code ≡ 64 → f (Shape.number 8) ≡ f (shapeOf code)
+  file-time e = rw e
 
--- in the table, which has a cell for each shape of the description's list
-pub shape-listed : (code : ℕ) (d : Cell) → code < length shapes → toldShape (getD (map cellOf shapes) code d) ≡ shapeOf code
-shape-listed code d h =
-    ap toldShape (getD-any (map cellOf shapes) code d (cellOf (Shape.number 4)) h ∙ List·getD-map cellOf shapes code (Shape.number 4))
-    ∙ told-cell (getD shapes code (Shape.number 4))
-    ∙ rw (ne-eqb code 64 (λ k. omega arith))
+  pub raw : length shapes ≤ code → (code ≡ 64 → ⊥) → f (Shape.number 4) ≡ f (shapeOf code)
+  raw h n = rw (ne-eqb code 64 n) (ap f (sym (List·getD-eq-default shapes (Shape.number 4) h)))
 
--- and beyond it
-pub shape-time : (code : ℕ) → code ≡ 64 → Shape.number 8 ≡ shapeOf code
-shape-time code e = rw e
+-- the shape that a mark is the mark of
+abbrev pub marked : ℕ → Shape
+marked n = cond (eqb n 0) Shape.empty (cond (eqb n 16) (Shape.octets 16) (cond (eqb n 98) Shape.bit (cond (eqb n 116) Shape.text (Shape.number n))))
 
-pub shape-raw : (code : ℕ) → length shapes ≤ code → (code ≡ 64 → ⊥) → Shape.number 4 ≡ shapeOf code
-shape-raw code h n = rw (ne-eqb code 64 n) (sym (List·getD-eq-default shapes (Shape.number 4) h))
+-- it is that of the code: seen at all shapes of the list at once
+pub mark-is : (code : ℕ) {mark : ℕ} → mark ≡ markOf (shapeOf code) → marked mark ≡ shapeOf code
+mark-is code e =
+    ap marked e
+    ∙ cond-elim (λ h. marked (markOf h) ≡ h) (eqb code 64) (Shape.number 8) (getD shapes code (Shape.number 4))
+    (λ _. refl)
+    (λ _. sym (List·getD-map (λ h. marked (markOf h)) shapes code (Shape.number 4)))
+
+-- a mark that is none of these is that of a number
+pub mark-other : (n : ℕ) → (n ≡ 0 → ⊥) → (n ≡ 16 → ⊥) → (n ≡ 98 → ⊥) → (n ≡ 116 → ⊥) → Shape.number n ≡ marked n
+mark-other n a b c d = rw (ne-eqb n 0 a, ne-eqb n 16 b, ne-eqb n 98 c, ne-eqb n 116 d)
 
 -- ---- a text
 

@@ -16,7 +16,7 @@ ghost use Rattle.description.specs.Sheet.{constant};
 ghost use Rattle.describe.specs.Constants.{contentOf, numberIn, placeIn, constantFrom, constantOf};
 ghost use Rattle.emit.specs.Emit.{Emitted};
 ghost use Rattle.sheet_constants.specs.Told.{toldContent, toldShape};
-ghost use Rattle.sheet_constants.specs.Bytes.{textBytes, valueBytes};
+ghost use Rattle.sheet_constants.specs.Bytes.{markOf, textBytes, valueBytes};
 
 mod bits;
 
@@ -37,48 +37,40 @@ pub enum Shape {
     Text,
 }
 
-// The shapes of the codes 0 to 25, in order.
-const SHAPES: [Shape; 26] = [
-    Shape::Empty,
-    Shape::Empty,
-    Shape::Number(2),
-    Shape::Number(4),
-    Shape::Number(4),
-    Shape::Number(8),
-    Shape::Number(8),
-    Shape::Number(8),
-    Shape::Text,
-    Shape::Number(4),
-    Shape::Number(4),
-    Shape::Bit,
-    Shape::Number(4),
-    Shape::Number(4),
-    Shape::Octets(16),
-    Shape::Number(4),
-    Shape::Number(1),
-    Shape::Number(1),
-    Shape::Number(2),
-    Shape::Number(4),
-    Shape::Number(8),
-    Shape::Number(8),
-    Shape::Number(4),
-    Shape::Number(4),
-    Shape::Empty,
-    Shape::Number(4),
-];
+// The marks of the shapes of the codes 0 to 25, eight codes to a line: the bytes of the value, b for a
+// byte that is 0 or 1, t for a text. (A number never has sixteen bytes.)
+const MARKS: [u8; 26] = *b"\
+\x00\x00\x02\x04\x04\x08\x08\x08\
+t\x04\x04b\x04\x04\x10\x04\
+\x01\x01\x02\x04\x08\x08\x04\x04\
+\x00\x04";
 
-// The shape of a code's value. Beyond the table a file time has eight bytes, and a code without a case of
+// The mark of a code's shape. Beyond the table a file time has eight bytes, and a code without a case of
 // its own four.
+fn mark_of(code: u16) -> u8
+    ensures { λ r. ⌜ r ≡ markOf (shapeOf code) ⌝ }
+{
+    if code < 26 {
+        return MARKS[code as usize];
+    }
+    if code == 64 {
+        return 8;
+    }
+    4
+}
+
+// The shape of a code's value.
 pub fn shape_of(code: u16) -> Shape
     ensures { λ r. ⌜ toldShape r ≡ shapeOf code ⌝ }
 {
-    if code < 26 {
-        return SHAPES[code as usize];
+    let mark = mark_of(code);
+    match mark {
+        0 => Shape::Empty,
+        16 => Shape::Octets(16),
+        b'b' => Shape::Bit,
+        b't' => Shape::Text,
+        _ => Shape::Number(mark as usize),
     }
-    if code == 64 {
-        return Shape::Number(8);
-    }
-    Shape::Number(4)
 }
 
 // What a constant holds: a signed number by its two's complement, a float by its bits, a truth as 0 or 1.

@@ -1,22 +1,30 @@
-use Rattle.sheet_constants.specs.Laws.{shape-listed, shape-time, shape-raw}
+use Rattle.sheet_constants.specs.Laws.{marked, mark-is, mark-other}
+use mathlib.Core.Path.{sym, ap, _∙_}
 use borrow.Author.Needs.{needs}
 use Rattle.sheet_constants.proofs.shape_of.Statement.{statement}
 use Rattle.sheet_constants.proofs.shape_of.Tie as tie
 
-mul-result : tie.Need-mul-result
-mul-result c = search needs
+mark-of-requires : tie.Need-mark-of-requires
+mark-of-requires c κs = search needs
 
-array-copy-out-result : tie.Need-array-copy-out-result
-array-copy-out-result c = search needs
+cast-t4 : tie.Need-cast-t4
+cast-t4 c = search needs
 
 returns : tie.Need-returns
-returns c = shape-listed _ _ (c .before .if1 .taken)
+returns c = ap marked (sym (c .match .keys1)) ∙ mark-is (c .before .before .args .code) (c .before .mark-of .ensures)
 
 returns-2 : tie.Need-returns-2
-returns-2 c = shape-time _ (c .if2 .taken)
+returns-2 c = ap marked (sym (c .match .keys2)) ∙ mark-is (c .before .before .args .code) (c .before .mark-of .ensures)
 
 returns-3 : tie.Need-returns-3
-returns-3 c = shape-raw _ (c .before .if1 .left) (c .if2 .left)
+returns-3 c = ap marked (sym (c .match .keys3)) ∙ mark-is (c .before .before .args .code) (c .before .mark-of .ensures)
+
+returns-4 : tie.Need-returns-4
+returns-4 c = ap marked (sym (c .match .keys4)) ∙ mark-is (c .before .before .args .code) (c .before .mark-of .ensures)
+
+returns-5 : tie.Need-returns-5
+returns-5 c = mark-other _ (c .match .rest .0 .0 .0 .1) (c .match .rest .0 .0 .1) (c .match .rest .0 .1) (c .match .rest .1) ∙ mark-is (c .before .before .args .code) (c .before .mark-of .ensures)
 
 pub shape-of-spec : {M : Type 1} → statement M
-shape-of-spec = tie.close (tie.spec mul-result array-copy-out-result returns returns-2 returns-3)
+shape-of-spec =
+    tie.close (tie.spec mark-of-requires cast-t4 returns returns-2 returns-3 returns-4 returns-5)
