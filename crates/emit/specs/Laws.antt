@@ -112,6 +112,10 @@ unstored {t} {o} {bs} {p} {n} {q} e f g h =
 pub refused-already : {x : Answer Bytes} {t : Put} {o : List ℕ} {m : ℕ} → t ≡ Refused m → Emitted x t o (Refused m) o
 refused-already e = rw e (record { moves = refl; lays = tt; keeps = refl })
 
+-- nothing more is emitted behind a refusal
+pub refused-stays : {x : Answer Bytes} {t : Put} {o : List ℕ} {m : ℕ} → t ≡ Refused m → Emitted x t o t o
+refused-stays e = rw e (record { moves = refl; lays = tt; keeps = refl })
+
 pub refused-now : {t : Put} {o : List ℕ} {p n : ℕ} → t ≡ At p → Emitted (refused n) t o (Refused n) o
 refused-now e = rw e (record { moves = refl; lays = tt; keeps = refl })
 

@@ -1,0 +1,102 @@
+use Rattle.sheet_members.specs.Lists.{layAll, laid-more, laid-none}
+use Rattle.emit.specs.Laws.{Left, left-all, left-less, left-none, refused-stays}
+use Rattle.describe.specs.YieldLaws.{func-yielded}
+use Rattle.describe.specs.Members.{yields, functionOf}
+use Rattle.describe.specs.Values.{numbered}
+use Rattle.description.specs.Sheet.{edition-one, function}
+use Rattle.typelib.specs.Told.{toldFuncStep}
+use Rattle.typelib.specs.Cursors.{funcStep}
+use Rattle.typelib.specs.declared.iterators.FuncCursor.{FuncCursor}
+use Rattle.records.specs.AnswerLaws.{tells}
+use mathlib.Core.Path.{_≡_}
+use Prim.Native.Nat.{_+_, _^_, _<_}
+use native.Mathlib.Omega.{arith}
+use borrow.Author.Needs.{needs}
+use Rattle.sheet_members.proofs.functions.put_each.Statement.{statement}
+use Rattle.sheet_members.proofs.functions.put_each.Tie as tie
+use Rattle.sheet_members.proofs.functions.put_each.Reads as reads
+use Rattle.sheet_members.proofs.functions.put_each.Lts as lts
+use Rattle.sheet_members.proofs.functions.put_function.Reads as put-function-reads
+use Rattle.typelib.proofs.iterators.FuncCursor.step.Reads as step-reads
+
+abbrev Inv-loop : tie.InvT-loop
+Inv-loop s lib ti out₀ t₀ c₀ i₀ out t c i = Left (layAll (function edition-one (lib .count)) (numbered (functionOf s lib ti) 0 (yields (funcStep s) (c₀ .remaining) c₀))) t₀ out₀ (layAll (function edition-one (lib .count)) (numbered (functionOf s lib ti) i (yields (funcStep s) (c .remaining) c))) t out × (i + c .remaining ≡ c₀ .remaining) × (c₀ .remaining < 2 ^ 64)
+
+abbrev μ-loop : tie.MeasureT-loop
+μ-loop s lib ti out₀ t₀ c₀ i₀ out t c i = c .remaining
+
+-- src/functions.rt:66:5
+loop-holds : tie.Need-loop-holds Inv-loop μ-loop
+loop-holds c = (left-all, omega arith, omega arith)
+
+enum-told : tie.Need-enum-told Inv-loop μ-loop
+enum-told c = search needs
+
+-- src/functions.rt:68:13
+enum-told-2 : tie.Need-enum-told-2 Inv-loop μ-loop
+enum-told-2 c = search needs
+
+-- src/functions.rt:68:13
+same-length : tie.Need-same-length Inv-loop μ-loop
+same-length c = (c .before .before .loop .inv .0 .finish _ _ (refused-stays (c .enum-told2 .given .1))) .keeps
+
+-- src/functions.rt:68:13
+returns : tie.Need-returns Inv-loop μ-loop
+returns c = c .before .before .loop .inv .0 .finish _ _ (refused-stays (c .enum-told2 .given .1))
+
+-- src/functions.rt:70:44
+step-requires : tie.Need-step-requires Inv-loop μ-loop
+step-requires c κs = search needs
+
+-- src/functions.rt:70:30
+enum-known-func : tie.Need-enum-known-func Inv-loop μ-loop
+enum-known-func c = search needs
+
+-- src/functions.rt:71:13
+enum-told-3 : tie.Need-enum-told-3 Inv-loop μ-loop
+enum-told-3 c = search needs
+
+-- src/functions.rt:71:13
+same-length-2 : tie.Need-same-length-2 Inv-loop μ-loop
+same-length-2 c = left-none (c .before .before .before .before .before .loop .inv .0) (laid-none (funcStep (c .before .before .before .before .before .before .before .before .args .s .now)) (λ (x : FuncCursor). x .remaining) _ _ _ (tells toldFuncStep (c .enum-told3 .given .1) (c .before .before .step .ensures))) .keeps
+
+-- src/functions.rt:71:13
+returns-2 : tie.Need-returns-2 Inv-loop μ-loop
+returns-2 c = left-none (c .before .before .before .before .before .loop .inv .0) (laid-none (funcStep (c .before .before .before .before .before .before .before .before .args .s .now)) (λ (x : FuncCursor). x .remaining) _ _ _ (tells toldFuncStep (c .enum-told3 .given .1) (c .before .before .step .ensures)))
+
+-- src/functions.rt:73:9
+put-function-requires : tie.Need-put-function-requires Inv-loop μ-loop
+put-function-requires c κs = search needs
+
+-- src/functions.rt:75:9
+add-i : tie.Need-add-i Inv-loop μ-loop
+add-i c = let e = tells toldFuncStep (c .before .before .before .before .before .func .given .1) (c .before .before .before .before .before .before .before .step .ensures) in let l = func-yielded _ _ _ _ e .lessens in omega (arith, c .before .before .before .before .before .before .before .before .before .before .loop .inv .1, c .before .before .before .before .before .before .before .before .before .before .loop .inv .2, l .some)
+
+-- src/functions.rt:66:5
+loop-less : tie.Need-loop-less Inv-loop μ-loop
+loop-less c = let e = tells toldFuncStep (c .before .before .before .before .before .func .given .1) (c .before .before .before .before .before .before .before .step .ensures) in let l = func-yielded _ _ _ _ e .lessens in omega (arith, l .some, l .fewer)
+
+-- src/functions.rt:66:5
+loop-again : tie.Need-loop-again Inv-loop μ-loop
+loop-again c = let e = tells toldFuncStep (c .before .before .before .before .before .func .given .1) (c .before .before .before .before .before .before .before .step .ensures) in let l = func-yielded _ _ _ _ e .lessens in (left-less (c .before .before .before .before .before .before .before .before .before .before .loop .inv .0) (c .before .before .put-function .ensures) (laid-more (funcStep (c .before .before .before .before .before .before .before .before .before .before .before .before .before .args .s .now)) (λ (x : FuncCursor). x .remaining) _ _ _ l e), omega (arith, c .before .before .before .before .before .before .before .before .before .before .loop .inv .1, l .some, l .fewer), c .before .before .before .before .before .before .before .before .before .before .loop .inv .2)
+
+pub put-each-spec : {M : Type 1} → statement M
+put-each-spec =
+    tie.close
+    (tie.spec
+    Inv-loop
+    μ-loop
+    loop-holds
+    enum-told
+    enum-told-2
+    same-length
+    returns
+    step-requires
+    enum-known-func
+    enum-told-3
+    same-length-2
+    returns-2
+    put-function-requires
+    add-i
+    loop-less
+    loop-again)

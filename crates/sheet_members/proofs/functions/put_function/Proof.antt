@@ -1,0 +1,70 @@
+use Rattle.sheet_members.proofs.MemberLaws.{function-is}
+use Rattle.emit.specs.Laws.{known, join}
+use borrow.Author.Needs.{needs}
+use Rattle.sheet_members.proofs.functions.put_function.Statement.{statement}
+use Rattle.sheet_members.proofs.functions.put_function.Tie as tie
+use Rattle.sheet_members.proofs.functions.put_function.Reads as reads
+use Rattle.sheet_members.proofs.functions.put_function.Lts as lts
+use Rattle.emit.proofs.word_at.Reads as word-at-reads
+use Rattle.sheet_members.proofs.functions.put_words.Reads as put-words-reads
+use Rattle.sheet_members.proofs.parameters.put_parameters.Reads as put-parameters-reads
+use Rattle.sheet_trees.proofs.trees.put_tree.Reads as put-tree-reads
+use Rattle.sheet_trees.proofs.values.put_name_by.Reads as put-name-by-reads
+use Rattle.sheet_trees.proofs.values.put_opt_memid.Reads as put-opt-memid-reads
+use Rattle.typelib.proofs.TypeLib.func_memid.Reads as func-memid-reads
+use Rattle.typelib.proofs.TypeLib.func_name_offset.Reads as func-name-offset-reads
+
+-- src/functions.rt:91:35
+func-memid-requires : tie.Need-func-memid-requires
+func-memid-requires c κs = search needs
+
+-- src/functions.rt:91:9
+put-opt-memid-requires : tie.Need-put-opt-memid-requires
+put-opt-memid-requires c κs = search needs
+
+-- src/functions.rt:92:41
+func-name-offset-requires : tie.Need-func-name-offset-requires
+func-name-offset-requires c κs = search needs
+
+-- src/functions.rt:92:9
+put-name-by-requires : tie.Need-put-name-by-requires
+put-name-by-requires c κs = search needs
+
+-- src/functions.rt:93:37
+word-at-requires : tie.Need-word-at-requires
+word-at-requires c κs = search needs
+
+-- src/functions.rt:93:9
+put-tree-requires : tie.Need-put-tree-requires
+put-tree-requires c κs = search needs
+
+-- src/functions.rt:94:9
+put-words-requires : tie.Need-put-words-requires
+put-words-requires c κs = search needs
+
+-- src/functions.rt:95:5
+put-parameters-requires : tie.Need-put-parameters-requires
+put-parameters-requires c κs = search needs
+
+-- src/functions.rt:80:1
+same-length : tie.Need-same-length
+same-length c = search needs
+
+-- src/functions.rt:80:1
+returns : tie.Need-returns
+returns c = known (function-is _ _ _ _ _ _ _ (c .before .before .before .before .before .before .before .before .before .before .before .before .before .before .before .before .before .before .before .before .before .before .func-memid .ensures) (c .before .before .before .before .before .before .before .before .before .before .before .before .before .before .before .before .before .func-name-offset .ensures) (c .before .before .before .before .before .before .before .before .before .before .before .before .word-at .ensures)) (join (c .before .before .before .before .before .before .before .before .before .before .before .before .before .before .before .before .before .before .before .before .put-opt-memid .ensures) (join (c .before .before .before .before .before .before .before .before .before .before .before .before .before .before .before .put-name-by .ensures) (join (c .before .before .before .before .before .before .before .before .before .before .put-tree .ensures) (join (c .before .before .before .before .before .before .put-words .ensures) (c .before .before .put-parameters .ensures)))))
+
+pub put-function-spec : {M : Type 1} → statement M
+put-function-spec =
+    tie.close
+    (tie.spec
+    func-memid-requires
+    put-opt-memid-requires
+    func-name-offset-requires
+    put-name-by-requires
+    word-at-requires
+    put-tree-requires
+    put-words-requires
+    put-parameters-requires
+    same-length
+    returns)

@@ -1,0 +1,3 @@
+-- What is emitted of the members of a type.
+pub mod Lists
+pub mod Words

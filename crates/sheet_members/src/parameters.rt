@@ -1,0 +1,123 @@
+// Parameters.
+use emit::Put;
+use records::answer::I32Answer;
+use records::func::FuncRecord;
+use records::param::ParameterInfo;
+use sheet_trees::trees;
+use sheet_trees::values;
+use typelib::TypeLib;
+use typelib::iterators::ParamCursor;
+use typelib::iterators::ParamStep;
+use typelib::iterators::ParamsAnswer;
+ghost use mathlib.Core.Path.{_≡_};
+ghost use lib.ListN.{length};
+ghost use Rattle.records.specs.Answer.{value, map};
+ghost use Rattle.records.specs.Told.{toldI32};
+ghost use Rattle.typelib.specs.Cursors.{paramStep};
+ghost use Rattle.description.specs.Format.{encode, opt, list};
+ghost use Rattle.description.specs.Sheet.{edition-one, u16, constant, parameter};
+ghost use Rattle.describe.specs.Values.{all, numbered};
+ghost use Rattle.describe.specs.Members.{yields, constantBy, defaultOf, parameterOf, parametersOf};
+ghost use Rattle.emit.specs.Emit.{Emitted};
+ghost use Rattle.sheet_members.specs.Lists.{layAll};
+
+// The parameters of a function: how many are yielded, and each.
+pub fn put_parameters(s: &[u8], lib: TypeLib, func: FuncRecord, out: &mut [u8], to: Put) -> Put
+    ensures { λ r. ⌜ Emitted (map (encode (list u16 (parameter edition-one (lib .count)))) (all (parametersOf (now (s .entry)) lib func))) to (now (out .entry)) r (now (out .exit)) ⌝ }
+{
+    match lib.params(s, func) {
+        ParamsAnswer::Value(cursor) => {
+            let t = emit::put_le(out, to, count(s, cursor) as u64, 2);
+            put_each(s, lib, func, cursor, out, t)
+        }
+        ParamsAnswer::Refused(_) => emit::put_u16(out, to, 0),
+    }
+}
+
+// How many parameters the cursor yields.
+fn count(s: &[u8], cursor: ParamCursor) -> usize
+    ensures { λ r. ⌜ r ≡ length (yields (paramStep (now (s .entry))) (cursor .remaining) cursor) ⌝ }
+{
+    let mut c = cursor;
+    let mut n: usize = 0;
+    loop {
+        let ParamStep::Record(_, next) = c.step(s) else {
+            return n;
+        };
+        c = next;
+        n += 1;
+    }
+}
+
+// Each parameter that the cursor yields. (A refusal ends it at once: nothing is emitted behind one.)
+fn put_each(
+    s: &[u8],
+    lib: TypeLib,
+    func: FuncRecord,
+    cursor: ParamCursor,
+    out: &mut [u8],
+    to: Put,
+) -> Put
+    ensures { λ r. ⌜ Emitted (layAll (parameter edition-one (lib .count)) (numbered (parameterOf (now (s .entry)) lib func) 0 (yields (paramStep (now (s .entry))) (cursor .remaining) cursor))) to (now (out .entry)) r (now (out .exit)) ⌝ }
+{
+    let mut t = to;
+    let mut c = cursor;
+    let mut i: usize = 0;
+    loop {
+        let Put::At(_) = t else {
+            return t;
+        };
+        let ParamStep::Record(param, next) = c.step(s) else {
+            return t;
+        };
+        t = put_parameter(s, lib, func, i, param, out, t);
+        c = next;
+        i += 1;
+    }
+}
+
+// Parameter `index` of `func`.
+fn put_parameter(
+    s: &[u8],
+    lib: TypeLib,
+    func: FuncRecord,
+    index: usize,
+    param: ParameterInfo,
+    out: &mut [u8],
+    to: Put,
+) -> Put
+    ensures { λ r. ⌜ Emitted (map (encode (parameter edition-one (lib .count))) (parameterOf (now (s .entry)) lib func index (record { at = param .at; len = param .len }))) to (now (out .entry)) r (now (out .exit)) ⌝ }
+{
+    let flags = emit::word_at(s, param.at, 0x08);
+    let t = trees::put_tree(s, lib, emit::word_at(s, param.at, 0x00), out, to);
+    let t = values::put_opt_name(s, lib, emit::word_at(s, param.at, 0x04), out, t);
+    let t = emit::put_u32(out, t, flags);
+    put_default(s, lib, flags, func.default_value_offset(s, index), out, t)
+}
+
+// A parameter's default value, where its flags have 0x20.
+fn put_default(
+    s: &[u8],
+    lib: TypeLib,
+    flags: u32,
+    offset: I32Answer,
+    out: &mut [u8],
+    to: Put,
+) -> Put
+    ensures { λ r. ⌜ Emitted (value (encode (opt constant) (defaultOf (now (s .entry)) lib flags (toldI32 offset)))) to (now (out .entry)) r (now (out .exit)) ⌝ }
+{
+    if flags / 0x20 % 2 == 1 {
+        put_constant_by(s, lib, offset, out, to)
+    } else {
+        emit::put_u8(out, to, 0)
+    }
+}
+
+fn put_constant_by(s: &[u8], lib: TypeLib, offset: I32Answer, out: &mut [u8], to: Put) -> Put
+    ensures { λ r. ⌜ Emitted (value (encode (opt constant) (constantBy (now (s .entry)) lib (toldI32 offset)))) to (now (out .entry)) r (now (out .exit)) ⌝ }
+{
+    let I32Answer::Value(x) = offset else {
+        return emit::put_u8(out, to, 0);
+    };
+    sheet_constants::put_opt_constant(s, lib, util::unsigned32(x), out, to)
+}

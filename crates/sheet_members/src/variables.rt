@@ -1,0 +1,109 @@
+// Variables.
+use emit::Put;
+use records::typeinfo::TypeInfoEntry;
+use records::var::VarRecord;
+use sheet_trees::trees;
+use sheet_trees::values;
+use typelib::TypeLib;
+use typelib::iterators::VarCursor;
+use typelib::iterators::VarStep;
+use typelib::iterators::VarsAnswer;
+ghost use mathlib.Core.Path.{_≡_};
+ghost use lib.ListN.{length};
+ghost use Rattle.records.specs.Answer.{value, map};
+ghost use Rattle.typelib.specs.Cursors.{varStep};
+ghost use Rattle.description.specs.Format.{encode, list};
+ghost use Rattle.description.specs.Description.{isConstant};
+ghost use Rattle.description.specs.Sheet.{edition-one, u16, variable};
+ghost use Rattle.describe.specs.Values.{all, numbered};
+ghost use Rattle.describe.specs.Members.{yields, valueWith, variableOf, variablesOf};
+ghost use Rattle.emit.specs.Emit.{Emitted};
+ghost use Rattle.sheet_members.specs.Lists.{layAll};
+ghost use Rattle.sheet_members.specs.Words.{valueBytes};
+
+// The variables of a type: how many are yielded, and each.
+pub fn put_variables(s: &[u8], lib: TypeLib, ti: TypeInfoEntry, out: &mut [u8], to: Put) -> Put
+    ensures { λ r. ⌜ Emitted (map (encode (list u16 (variable edition-one (lib .count)))) (all (variablesOf (now (s .entry)) lib ti))) to (now (out .entry)) r (now (out .exit)) ⌝ }
+{
+    match lib.vars(s, ti) {
+        VarsAnswer::Value(cursor) => {
+            let t = emit::put_le(out, to, count(s, cursor) as u64, 2);
+            put_each(s, lib, ti, cursor, out, t)
+        }
+        VarsAnswer::Refused(_) => emit::put_u16(out, to, 0),
+    }
+}
+
+// How many variables the cursor yields.
+fn count(s: &[u8], cursor: VarCursor) -> usize
+    ensures { λ r. ⌜ r ≡ length (yields (varStep (now (s .entry))) (cursor .remaining) cursor) ⌝ }
+{
+    let mut c = cursor;
+    let mut n: usize = 0;
+    loop {
+        let VarStep::Record(_, next) = c.step(s) else {
+            return n;
+        };
+        c = next;
+        n += 1;
+    }
+}
+
+// Each variable that the cursor yields. (A refusal ends it at once: nothing is emitted behind one.)
+fn put_each(
+    s: &[u8],
+    lib: TypeLib,
+    ti: TypeInfoEntry,
+    cursor: VarCursor,
+    out: &mut [u8],
+    to: Put,
+) -> Put
+    ensures { λ r. ⌜ Emitted (layAll (variable edition-one (lib .count)) (numbered (variableOf (now (s .entry)) lib ti) 0 (yields (varStep (now (s .entry))) (cursor .remaining) cursor))) to (now (out .entry)) r (now (out .exit)) ⌝ }
+{
+    let mut t = to;
+    let mut c = cursor;
+    let mut i: usize = 0;
+    loop {
+        let Put::At(_) = t else {
+            return t;
+        };
+        let VarStep::Record(var, next) = c.step(s) else {
+            return t;
+        };
+        t = put_variable(s, lib, ti, i, var, out, t);
+        c = next;
+        i += 1;
+    }
+}
+
+// Variable `index` of `ti`.
+fn put_variable(
+    s: &[u8],
+    lib: TypeLib,
+    ti: TypeInfoEntry,
+    index: usize,
+    var: VarRecord,
+    out: &mut [u8],
+    to: Put,
+) -> Put
+    ensures { λ r. ⌜ Emitted (map (encode (variable edition-one (lib .count))) (variableOf (now (s .entry)) lib ti index (record { at = var .at; len = var .len }))) to (now (out .entry)) r (now (out .exit)) ⌝ }
+{
+    let varkind = emit::half_at(s, var.at, 0x0C);
+    let t = values::put_opt_memid(lib.var_memid(s, ti, index), out, to);
+    let t = values::put_name_by(s, lib, lib.var_name_offset(s, ti, index), out, t);
+    let t = trees::put_tree(s, lib, emit::word_at(s, var.at, 0x04), out, t);
+    let t = emit::copy_u32(s, var.at, 0x08, out, t);
+    let t = emit::put_u16(out, t, varkind);
+    put_value(s, lib, varkind, emit::word_at(s, var.at, 0x10), out, t)
+}
+
+// The word at 0x10: a constant where 0x0C holds 2.
+fn put_value(s: &[u8], lib: TypeLib, varkind: u16, word: u32, out: &mut [u8], to: Put) -> Put
+    ensures { λ r. ⌜ Emitted (value (valueBytes (isConstant varkind) (valueWith (now (s .entry)) lib (isConstant varkind) word))) to (now (out .entry)) r (now (out .exit)) ⌝ }
+{
+    if varkind == 2 {
+        sheet_constants::put_opt_constant(s, lib, word, out, to)
+    } else {
+        emit::put_u32(out, to, word)
+    }
+}
