@@ -1,0 +1,122 @@
+-- A whole call: it parses, measures, and then writes into a part of the output of just that size. Assumes nothing.
+use mathlib.Core.Path.{_≡_, refl, sym, ap, _∙_}
+use mathlib.Core.Bool.{Bool, true, cond, _&&_}
+use mathlib.Core.List.{List, [], _∷_, _++_, append-nil}
+use Prim.Native.Nat.{ℕ, suc, _+_, _≤_, _<_, min, max}
+use native.Mathlib.Nat.{zero-add}
+use native.Mathlib.Omega.{arith}
+use lib.ListN.{length, take, drop}
+use lib.Seq.{sets, sets-eq, length-take-le, drop-length}
+use borrow.Author.Tests.{le-leb, lt-leb, lt-ltb, le-ltb}
+use Rattle.records.specs.Answer.{Answer, value, refused, map, bind}
+use Rattle.records.specs.Record.{limit}
+use Rattle.typelib.specs.declared.TypeLib.{TypeLib}
+use Rattle.typelib.specs.declared.Parsed.{Parsed}
+use Rattle.typelib.specs.Header.{parseOf, parsed}
+use Rattle.description.specs.Description.{Bytes, Library}
+use Rattle.description.specs.Sheet.{edition-one, sheetBytes}
+use Rattle.describe.specs.Describe.{headerOf, typesOf, describeAs, describe}
+use Rattle.describe.specs.Answers.{answers-refused}
+use Rattle.describe.specs.Refusals.{parse-sound}
+use Rattle.describe.specs.Call.{within, sheetOf, written, Call}
+use Rattle.emit.specs.declared.Put.{Put}
+use Rattle.emit.specs.declared.Put.the-variants.{At, Refused}
+use Rattle.emit.specs.Emit.{advance, moved, Emitted}
+use Rattle.sheet.specs.Contents.{sheetEmitted, Answered}
+
+-- ---- measuring and writing
+
+-- a run that fills the list
+filled : (bs l : List ℕ) → length bs ≡ length l → sets l 0 bs ≡ bs
+filled bs l h = sets-eq bs l 0 (omega arith) ∙ rw (zero-add (length bs), h, drop-length l) (append-nil bs)
+
+size-of : (bs : List ℕ) (n : ℕ) → At n ≡ At (advance 0 (length bs)) → n ≡ min (length bs) (suc limit)
+unfolding advance
+size-of bs n e = let f : n ≡ max 0 (min (0 + length bs) (suc limit)) = cc in omega arith
+
+module _ {r : Put} where
+  pub whole-refused : (x : Answer Bytes) {o : List ℕ} {n : ℕ} → r ≡ moved (At 0) x → r ≡ Refused n → Answered x o (refused n) o
+  unfolding written
+  whole-refused (value bs) m e = absurd (let z : _≡_ {A = ℕ} 0 1 = cc in omega arith)
+  whole-refused (refused k) {o} {n} m e =
+      let q : n ≡ k = let z : Refused n ≡ Refused k = sym e ∙ m in cc in
+      record { replies = ap refused q; leaves = refl }
+
+  pub whole-long : (x : Answer Bytes) {o : List ℕ} {n : ℕ} → r ≡ moved (At 0) x → r ≡ At n → limit < n → Answered x o (refused 12) o
+  unfolding within written
+  whole-long (value bs) {o} {n} m e h =
+      let k : limit < length bs = omega (arith, size-of bs n (sym e ∙ m)) in
+      record { replies = rw (lt-leb (length bs) limit k); leaves = rw (lt-leb (length bs) limit k) }
+  whole-long (refused j) m e h = absurd (let z : _≡_ {A = ℕ} 0 1 = cc in omega arith)
+
+  pub whole-short : (x : Answer Bytes) {o : List ℕ} {n : ℕ} → r ≡ moved (At 0) x → r ≡ At n → n ≤ limit → length o < n → Answered x o (refused 12) o
+  unfolding within written
+  whole-short (value bs) {o} {n} m e h room =
+      let k : length bs ≤ limit = omega (arith, size-of bs n (sym e ∙ m)) in
+      let j : length o < length bs = omega (arith, size-of bs n (sym e ∙ m)) in
+      record {
+        replies = rw (le-leb (length bs) limit k, lt-leb (length bs) (length o) j);
+        leaves = rw (le-leb (length bs) limit k, lt-leb (length bs) (length o) j);
+      }
+  whole-short (refused j) m e h room = absurd (let z : _≡_ {A = ℕ} 0 1 = cc in omega arith)
+
+  pub whole-done : (x : Answer Bytes) {o e′ : List ℕ} {n : ℕ} {r′ : Put} → r ≡ moved (At 0) x → r ≡ At n → n ≤ limit → n ≤ length o
+      → Emitted x (At 0) (take n o) r′ e′ → Answered x o (value n) (e′ ++ drop n o)
+  unfolding within written
+  whole-done (value bs) {o} {e′} {n} {r′} m e h room w =
+      let q : n ≡ length bs = omega (arith, size-of bs n (sym e ∙ m)) in
+      let k : length bs ≤ limit = omega arith in
+      let j : length bs ≤ length o = omega arith in
+      let t : length (take n o) ≡ n = length-take-le n o room in
+      let f : e′ ≡ bs = w .lays (omega (arith, k)) (omega (arith, q, t)) ∙ filled bs (take n o) (sym q ∙ sym t) in
+      record {
+        replies = rw (le-leb (length bs) limit k, le-leb (length bs) (length o) j) (ap value q);
+        leaves = rw (le-leb (length bs) limit k, le-leb (length bs) (length o) j) (rw (f, q));
+      }
+  whole-done (refused j) m e h room w = absurd (let z : _≡_ {A = ℕ} 0 1 = cc in omega arith)
+
+-- ---- parsing first
+
+-- a library whose number is 0 was parsed, and another number is the refusal's
+parsed-refused : (a : Answer TypeLib) {n : ℕ} → (parsed a) .number ≡ n → (n ≡ 0 → ⊥) → a ≡ refused n
+parsed-refused (value lib) e h = absurd (h (sym e))
+parsed-refused (refused m) e h = ap refused e
+
+parsed-value : (a : Answer TypeLib) → (parsed a) .number ≡ 0 → (a ≡ refused 0 → ⊥) → a ≡ value ((parsed a) .lib)
+parsed-value (value lib) e h = refl
+parsed-value (refused m) e h = absurd (h (ap refused e))
+
+-- no refusal has the number 0
+never-zero : (s : List ℕ) → parseOf s ≡ refused 0 → ⊥
+never-zero s e = answers-refused (parse-sound s) e
+
+joined-answer : {A : Type 0} (f : A → Bytes) (room : ℕ) (a : Answer A) → bind a (λ d. within room (f d)) ≡ bind (map f a) (within room)
+joined-answer f room (value d) = refl
+joined-answer f room (refused n) = refl
+
+module _ (s : List ℕ) (p : Parsed) (e : p ≡ parsed (parseOf s)) where
+  number : (parsed (parseOf s)) .number ≡ p .number
+  number = ap (λ (x : Parsed). x .number) (sym e)
+
+  pub call-refused : {o : List ℕ} → (p .number ≡ 0 → ⊥) → Call edition-one s o (refused (p .number)) o
+  unfolding sheetOf describe written
+  call-refused h = let q : parseOf s ≡ refused (p .number) = parsed-refused (parseOf s) number h in record { replies = rw q; leaves = rw q }
+
+  module _ (zero : p .number ≡ 0) where
+    library : parseOf s ≡ value (p .lib)
+    library = parsed-value (parseOf s) (number ∙ zero) (never-zero s) ∙ ap (λ (x : Parsed). value (x .lib)) (sym e)
+
+    pub call-many : {o : List ℕ} → 65535 < p .lib .count → Call edition-one s o (refused 13) o
+    unfolding sheetOf describe describeAs written
+    call-many h = record { replies = rw (library, lt-ltb 65535 (p .lib .count) h); leaves = rw (library, lt-ltb 65535 (p .lib .count) h) }
+
+    is-emitted : (room : ℕ) → p .lib .count ≤ 65535 → sheetOf edition-one s room ≡ bind (sheetEmitted s (p .lib)) (within room)
+    unfolding sheetOf describe describeAs sheetEmitted
+    is-emitted room h = rw (library, le-ltb 65535 (p .lib .count) h) (joined-answer (sheetBytes edition-one) room (map (λ types. record { header = headerOf s (p .lib); types = types }) (typesOf s (p .lib))))
+
+    pub call-answered : {o o′ : List ℕ} {r : Answer ℕ} → p .lib .count ≤ 65535 → Answered (sheetEmitted s (p .lib)) o r o′ → Call edition-one s o r o′
+    call-answered {o} {o′} {r} h a =
+        record {
+          replies = a .replies ∙ ap (map length) (sym (is-emitted (length o) h));
+          leaves = a .leaves ∙ ap (written o) (sym (is-emitted (length o) h));
+        }

@@ -1,0 +1,4 @@
+-- Laws that the emitters cite.
+pub mod TypeLaws
+pub mod ContentLaws
+pub mod CallLaws

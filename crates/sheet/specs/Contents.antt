@@ -1,0 +1,54 @@
+-- Contents and bodies. They are written in another order than they are laid out: the length of a body goes into the contents once
+-- the body is written. Assumes nothing.
+use mathlib.Core.Path.{_≡_}
+use mathlib.Core.List.{List, [], _∷_}
+use Prim.Native.Nat.{ℕ, _+_, _-_, _≤_}
+use lib.ListN.{length}
+use lib.Seq.{sets}
+use Rattle.records.specs.Answer.{Answer, value, refused, map, bind}
+use Rattle.records.specs.Record.{limit}
+use Rattle.typelib.specs.declared.TypeLib.{TypeLib}
+use Rattle.description.specs.Format.{Format, encode, leBytes}
+use Rattle.description.specs.Description.{Bytes}
+use Rattle.description.specs.Sheet.{edition-one, sheetBytes}
+use Rattle.describe.specs.Call.{within, written}
+use Rattle.describe.specs.Describe.{headerOf, typesOf}
+use Rattle.emit.specs.declared.Put.{Put}
+use Rattle.emit.specs.declared.Put.the-variants.{At, Refused}
+use Rattle.emit.specs.Emit.{_▸_, moved}
+
+-- the whole sheet of a library
+unfoldable pub sheetEmitted : List ℕ → TypeLib → Answer Bytes
+sheetEmitted s lib = map (sheetBytes edition-one) (map (λ types. record { header = headerOf s lib; types = types }) (typesOf s lib))
+
+-- the length of what is emitted, and the lengths of all that is
+abbrev pub lenOf : Answer Bytes → Answer Bytes
+lenOf (value bs) = value (leBytes 4 (length bs))
+lenOf (refused n) = refused n
+
+unfoldable pub lensOf : {A : Type 0} → Format A → List (Answer A) → Answer Bytes
+lensOf F [] = value []
+lensOf F (x ∷ xs) = lenOf (map (encode F) x) ▸ lensOf F xs
+
+-- the distance of two places was put at `at`
+pub record Patched (from end : Put) (at : ℕ) (o o′ : List ℕ) : Type 0 where
+  pub puts : (p q : ℕ) → from ≡ At p → end ≡ At q → p ≤ q → at + 4 ≤ limit → at + 4 ≤ length o → o′ ≡ sets o at (leBytes 4 (q - p))
+  pub keeps : length o′ ≡ length o
+
+-- ks were laid from c, and bs from the place
+abbrev pub LaidTwo : Answer Bytes → Answer Bytes → ℕ → Put → List ℕ → List ℕ → Type 0
+LaidTwo (value ks) (value bs) c (At p) o o′ = c + length ks ≤ p → p + length bs ≤ limit → p + length bs ≤ length o → o′ ≡ sets (sets o c ks) p bs
+LaidTwo (value ks) (value bs) c (Refused m) o o′ = Unit {0}
+LaidTwo (value ks) (refused n) c t o o′ = Unit {0}
+LaidTwo (refused n) x c t o o′ = Unit {0}
+
+-- an emitter of bodies xs from the place t, with their lengths ks from c
+pub record Twofold (ks xs : Answer Bytes) (c : ℕ) (t : Put) (o : List ℕ) (r : Put) (o′ : List ℕ) : Type 0 where
+  pub moves : r ≡ moved t xs
+  pub lays : LaidTwo ks xs c t o o′
+  pub keeps : length o′ ≡ length o
+
+-- a call that was to write x into an output that held o: its reply, and the output after it
+pub record Answered (x : Answer Bytes) (o : List ℕ) (r : Answer ℕ) (o′ : List ℕ) : Type 0 where
+  pub replies : r ≡ map length (bind x (within (length o)))
+  pub leaves : o′ ≡ written o (bind x (within (length o)))

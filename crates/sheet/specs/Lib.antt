@@ -1,0 +1,3 @@
+-- What the sheet call emits.
+pub mod Types
+pub mod Contents

@@ -1,0 +1,103 @@
+// What a type is based on: the interface under it, the interfaces that it implements, or the type that it names.
+use emit::Put;
+use records::refrecord::RefRecord;
+use records::typeinfo::TypeInfoEntry;
+use sheet_trees::references;
+use sheet_trees::trees;
+use typelib::TypeLib;
+use typelib::impltypes::ImplTypeCursor;
+use typelib::impltypes::ImplTypeStep;
+use typelib::impltypes::ImplTypesAnswer;
+use typelib::impltypes::WalkAnswer;
+ghost use mathlib.Core.Path.{_≡_};
+ghost use Rattle.records.specs.Answer.{value, map};
+ghost use Rattle.typelib.specs.Chain.{walkOf, toldWalk};
+ghost use Rattle.description.specs.Format.{encode, list};
+ghost use Rattle.description.specs.Sheet.{edition-one, u32, implType};
+ghost use Rattle.describe.specs.Types.{implTypeAt, implTypesAt};
+ghost use Rattle.emit.specs.Emit.{Emitted};
+ghost use Rattle.sheet.specs.Types.{baseEmitted, chainEmitted, linksBytes};
+
+// The base of a type of that kind.
+pub(crate) fn put_base(
+    s: &[u8],
+    lib: TypeLib,
+    ti: TypeInfoEntry,
+    kind: u32,
+    out: &mut [u8],
+    to: Put,
+) -> Put
+    ensures { λ r. ⌜ Emitted (baseEmitted (now (s .entry)) lib ti kind) to (now (out .entry)) r (now (out .exit)) ⌝ }
+{
+    match kind {
+        3 => references::put_reference(s, lib, emit::word_at(s, ti.at, 0x54), out, to),
+        4 => references::put_reference(s, lib, emit::word_at(s, ti.at, 0x54), out, to),
+        5 => put_chain(s, lib, ti, out, to),
+        6 => trees::put_tree(s, lib, emit::word_at(s, ti.at, 0x54), out, to),
+        _ => to,
+    }
+}
+
+// The chain of implemented types: how many the full walk takes, and each; 10 where it comes round.
+fn put_chain(s: &[u8], lib: TypeLib, ti: TypeInfoEntry, out: &mut [u8], to: Put) -> Put
+    ensures { λ r. ⌜ Emitted (map (encode (list u32 (implType edition-one (lib .count)))) (implTypesAt (now (s .entry)) lib ti)) to (now (out .entry)) r (now (out .exit)) ⌝ }
+{
+    match lib.impl_types(s, ti) {
+        ImplTypesAnswer::Value(cursor) => put_walked(s, lib, cursor, cursor.walk(s), out, to),
+        ImplTypesAnswer::Refused(n) => emit::put_refusal(to, n),
+    }
+}
+
+fn put_walked(
+    s: &[u8],
+    lib: TypeLib,
+    cursor: ImplTypeCursor,
+    walk: WalkAnswer,
+    out: &mut [u8],
+    to: Put,
+) -> Put
+    requires { ⌜ toldWalk walk ≡ walkOf (now s) cursor ⌝ }
+    ensures { λ r. ⌜ Emitted (chainEmitted (now (s .entry)) lib cursor) to (now (out .entry)) r (now (out .exit)) ⌝ }
+{
+    match walk {
+        WalkAnswer::Took(count) => {
+            let t = emit::put_le(out, to, count as u64, 4);
+            put_links(s, lib, cursor, count, out, t)
+        }
+        WalkAnswer::Refused(n) => emit::put_refusal(to, n),
+    }
+}
+
+// The `count` records that the walk took.
+fn put_links(
+    s: &[u8],
+    lib: TypeLib,
+    cursor: ImplTypeCursor,
+    count: usize,
+    out: &mut [u8],
+    to: Put,
+) -> Put
+    requires { ⌜ value count ≡ walkOf (now s) cursor ⌝ }
+    ensures { λ r. ⌜ Emitted (value (linksBytes (now (s .entry)) lib cursor count 0)) to (now (out .entry)) r (now (out .exit)) ⌝ }
+{
+    let mut t = to;
+    let mut c = cursor;
+    let mut k: usize = 0;
+    while k < count {
+        let ImplTypeStep::Record(link, next) = c.step(s) else {
+            return t;
+        };
+        t = put_link(s, lib, link, out, t);
+        c = next;
+        k += 1;
+    }
+    t
+}
+
+// A record of the chain: a reference, and its flags.
+fn put_link(s: &[u8], lib: TypeLib, link: RefRecord, out: &mut [u8], to: Put) -> Put
+    ensures { λ r. ⌜ Emitted (value (encode (implType edition-one (lib .count)) (implTypeAt (now (s .entry)) lib (record { at = link .at; len = link .len })))) to (now (out .entry)) r (now (out .exit)) ⌝ }
+{
+    let t = references::put_reference(s, lib, emit::word_at(s, link.at, 0x00), out, to);
+    emit::copy_u32(s, link.at, 0x04, out, t)
+}
