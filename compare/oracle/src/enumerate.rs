@@ -3,17 +3,14 @@
 use std::collections::HashSet;
 use std::fmt::Debug;
 
+use crate::library::{
+    ARRAY_DESCRIPTOR_SEGMENT, IMPORT_SEGMENT, Place, REFERENCE_SEGMENT, TYPE_DESCRIPTOR_SEGMENT,
+};
 use crate::readings::{Kind, place_in};
 use crate::{
     ArrayDesc, FuncRecord, ImpFile, ImpInfo, ParameterInfo, RefRecord, TypeDescription,
     TypeInfoEntry, TypeKind, TypeLib,
 };
-
-/// Numbers of the segments whose records do not say where they lie.
-const IMPORT_SEGMENT: usize = 1;
-const REFERENCE_SEGMENT: usize = 3;
-const TYPE_DESCRIPTOR_SEGMENT: usize = 9;
-const ARRAY_DESCRIPTOR_SEGMENT: usize = 10;
 
 /// Size of one entry of the type-descriptor table.
 const TYPE_DESCRIPTOR_SIZE: usize = 8;
@@ -66,9 +63,7 @@ impl<'a> Found<'a> {
         self.push(kind, place_in(self.data, bytes), bytes.len());
     }
 
-    /// Adds a record whose bytes the reference keeps to itself: the caller works out the place. A
-    /// record made from the bytes there must show what the record from the reference shows; their
-    /// derived `Debug` shows every byte.
+    /// Adds a record whose bytes the reference keeps to itself: the caller works out the place.
     fn push_worked_out<R: Debug>(
         &mut self,
         kind: Kind,
@@ -76,12 +71,7 @@ impl<'a> Found<'a> {
         make: fn(&'a [u8]) -> R,
         yielded: R,
     ) {
-        let made = make(&self.data[at..at + len]);
-        assert_eq!(
-            format!("{made:?}"),
-            format!("{yielded:?}"),
-            "the record lies elsewhere"
-        );
+        Place { at, len }.shown(self.data, make, yielded);
         self.push(kind, at, len);
     }
 
@@ -170,6 +160,6 @@ impl<'a> Found<'a> {
 }
 
 /// Where a segment begins; 0 where it is missing, as the reference's iterators take it.
-fn segment_start(lib: &TypeLib, segment: usize) -> usize {
+pub(crate) fn segment_start(lib: &TypeLib, segment: usize) -> usize {
     lib.segment(segment).map_or(0, |(offset, _)| offset)
 }

@@ -1,13 +1,14 @@
 //! The reference reader, built from its own files, and what this project asks of it.
 //!
 //! The reference's crate root and its `Error` type are not among the given files. This file stands
-//! in for both. `readings` and `enumerate` are ours; they are modules of the same crate because
+//! in for both. `readings`, `library` and `enumerate` are ours; they are modules of the same crate because
 //! the constructors of the reference's records are `pub(crate)`.
 
 // One `mod` for each of the reference's files, written by `build.rs`.
 include!(concat!(env!("OUT_DIR"), "/modules.rs"));
 
 pub mod enumerate;
+pub mod library;
 pub mod readings;
 
 pub use arraydesc::{ArrayDesc, SafeArrayBound};

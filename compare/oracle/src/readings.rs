@@ -1,7 +1,7 @@
 //! What the reference answers to every method of a record, as bytes.
 
 use crate::{
-    ArrayDesc, FuncRecord, Guid, GuidEntry, ImpFile, ImpInfo, ParameterInfo, RefRecord,
+    ArrayDesc, FuncRecord, Guid, GuidEntry, ImpFile, ImpInfo, NameEntry, ParameterInfo, RefRecord,
     SafeArrayBound, TypeInfoEntry, TypeKind, VarRecord, vt_name,
 };
 
@@ -22,11 +22,12 @@ pub enum Kind {
     Func = 9,
     VtName = 10,
     TypeKind = 11,
+    Name = 12,
 }
 
 impl Kind {
     /// Every kind, by number.
-    pub const ALL: [Kind; 12] = [
+    pub const ALL: [Kind; 13] = [
         Kind::Guid,
         Kind::GuidEntry,
         Kind::Param,
@@ -39,7 +40,27 @@ impl Kind {
         Kind::Func,
         Kind::VtName,
         Kind::TypeKind,
+        Kind::Name,
     ];
+
+    /// The kind's name in what the replay prints.
+    pub fn name(self) -> &'static str {
+        match self {
+            Kind::Guid => "guid",
+            Kind::GuidEntry => "guidentry",
+            Kind::Param => "param",
+            Kind::RefRecord => "refrecord",
+            Kind::ImpInfo => "impinfo",
+            Kind::ArrayDesc => "arraydesc",
+            Kind::ImpFile => "impfile",
+            Kind::TypeInfo => "typeinfo",
+            Kind::Var => "var",
+            Kind::Func => "func",
+            Kind::VtName => "vt_name",
+            Kind::TypeKind => "typekind",
+            Kind::Name => "name",
+        }
+    }
 
     /// Whether this is a kind of record, and not a conversion from a number.
     pub fn is_record(self) -> bool {
@@ -47,7 +68,8 @@ impl Kind {
     }
 
     /// The length below which the reference holds no record of this kind.
-    /// It names no constant for a GUID's 16 bytes and an array descriptor's 8.
+    /// It names no constant for a GUID's 16 bytes and an array descriptor's 8. A name entry holds a
+    /// text of any length.
     pub fn fixed_part(self) -> usize {
         match self {
             Kind::Guid => 16,
@@ -60,7 +82,7 @@ impl Kind {
             Kind::TypeInfo => TypeInfoEntry::SIZE,
             Kind::Var => VarRecord::BASE_SIZE,
             Kind::Func => FuncRecord::BASE_SIZE,
-            Kind::VtName | Kind::TypeKind => 0,
+            Kind::VtName | Kind::TypeKind | Kind::Name => 0,
         }
     }
 }
@@ -81,7 +103,8 @@ pub const NOTHING: u8 = 9;
 
 /// The answers of all methods of `kind` for the `len` bytes at `at` of the lent bytes, in the
 /// order in which the reference's file declares them. `arg` is the index for the methods that take
-/// one, and the number itself for `VtName` and `TypeKind`.
+/// one, the number itself for `VtName` and `TypeKind`, and what the numbers of a name entry are made
+/// from.
 ///
 /// A record not wholly inside the lent bytes, or shorter than its fixed part, is one that the
 /// reference never holds: document 01 makes it `NOTHING` to every method, and the reference is not
@@ -161,11 +184,33 @@ pub fn readings(kind: Kind, lent: &[u8], at: u32, len: u32, arg: u32) -> Vec<Rea
                 reading("to_string", lent, Some(typekind.to_string())),
             ]
         }
+        Kind::Name => name_readings(lent, inside, arg),
     }
 }
 
+/// A name entry with that text. The reference holds none whose text is not UTF-8 or not inside the
+/// lent bytes, and only the name is asked for then: the numbers need no bytes.
+fn name_readings(lent: &[u8], text: Option<&[u8]>, arg: u32) -> Vec<Reading> {
+    let text = text.and_then(|bytes| std::str::from_utf8(bytes).ok());
+    let entry = text.map(|text| {
+        let (hreftype, next_hash) = (arg as i32, !arg as i32);
+        let (flags, hashcode) = (arg as u8, (arg >> 16) as u16);
+        NameEntry::new(arg as usize, text, hreftype, next_hash, flags, hashcode)
+    });
+    let name = entry.as_ref().map(NameEntry::name);
+    let mut readings = vec![reading("name", lent, Some(name))];
+    if let Some(entry) = entry {
+        readings.push(reading("offset", lent, Some(entry.offset())));
+        readings.push(reading("hreftype", lent, Some(entry.hreftype())));
+        readings.push(reading("next_hash", lent, Some(entry.next_hash())));
+        readings.push(reading("name_flags", lent, Some(entry.name_flags())));
+        readings.push(reading("hashcode", lent, Some(entry.hashcode())));
+    }
+    readings
+}
+
 /// The answer of one method; `None` where there is no record to ask.
-fn reading<T: Reply>(method: &'static str, lent: &[u8], reply: Option<T>) -> Reading {
+pub(crate) fn reading<T: Reply>(method: &'static str, lent: &[u8], reply: Option<T>) -> Reading {
     let mut answer = Vec::new();
     reply.write(lent, &mut answer);
     Reading {
@@ -176,7 +221,7 @@ fn reading<T: Reply>(method: &'static str, lent: &[u8], reply: Option<T>) -> Rea
 }
 
 /// A method's result, written as an answer. The method's own type decides the width.
-trait Reply {
+pub(crate) trait Reply {
     /// Whether this type has a case for "nothing there".
     const OPTIONAL: bool = false;
 

@@ -1,0 +1,125 @@
+//! Document 01's edges. What it says of each stands here, and the reference must say the same.
+//!
+//! Its first refusal, of more than 16,777,216 bytes, is in no file: the bytes would be too many.
+
+use msft_typelib::library::Ask;
+
+use crate::libraries::Library;
+use crate::made_libraries::{Made, TYPEINFO_SIZE, func, typeinfo};
+use crate::questions::{of_word, question};
+
+/// The bytes of a library that holds nothing: its header and its directory.
+const EMPTY: usize = 324;
+
+/// The bit at 0x14 that says that four more bytes follow the header.
+const HELP_DLL: u32 = 0x100;
+
+/// Constants, inline, and the answer to each: 0, the code in two bytes, and the value.
+const CONSTANTS: [(u32, &[u8]); 5] = [
+    (0x8000_0000, &[0, 0, 0]),
+    (0x8800_FFFF, &[0, 2, 0, 0xFF, 0xFF]),
+    (0x8C00_FFFF, &[0, 3, 0, 0xFF, 0xFF, 0, 0]),
+    (0xC000_00FF, &[0, 16, 0, 0xFF]),
+    (0xFFFF_FFFF, &[0, 3, 0, 0xFF, 0xFF, 0xFF, 3]),
+];
+
+/// References in a library of two typeinfos, and the answer to each: 0, 1 for a typeinfo of this
+/// library, and its index; or 9.
+const REFERENCES: [(u32, &[u8]); 4] = [
+    (4, &[0, 1, 0, 0, 0, 0, 0, 0, 0, 0]),
+    (100, &[0, 1, 1, 0, 0, 0, 0, 0, 0, 0]),
+    (200, &[9]),
+    (0x0100_0064, &[0, 1, 1, 0, 0, 0, 0, 0, 0, 0]),
+];
+
+pub fn libraries() -> Vec<Library> {
+    let mut libraries = parsed();
+    libraries.extend(of_words(Made::new(&[]), Ask::ConstValue, &CONSTANTS));
+    libraries.extend(of_words(
+        Made::new(&[0, 0]),
+        Ask::ResolveHreftypeFull,
+        &REFERENCES,
+    ));
+    libraries.extend(funcs());
+    libraries
+}
+
+/// What `parse` replies to the first bytes of a library whose other bytes are zero.
+fn parsed() -> Vec<Library> {
+    let plain = start(0, 0);
+    let with_help = start(HELP_DLL, 0);
+    let negative = start(0, u32::MAX);
+    [
+        (&plain, 83, 2),
+        (&plain, 84, 5),
+        (&plain, EMPTY - 1, 5),
+        (&plain, EMPTY, 0),
+        (&with_help, EMPTY + 3, 5),
+        (&with_help, EMPTY + 4, 0),
+        (&negative, EMPTY, 4),
+    ]
+    .map(|(bytes, len, number)| {
+        let library = Library::new(bytes[..len].to_vec(), Vec::new());
+        expect(library, Ask::Parse, &[&[number]])
+    })
+    .into()
+}
+
+/// A header with the magic, those flags and that count, and zeros behind it.
+pub fn start(flags: u32, count: u32) -> Vec<u8> {
+    let mut bytes = vec![0; EMPTY + 8];
+    bytes[..4].copy_from_slice(b"MSFT");
+    bytes[0x14..0x18].copy_from_slice(&flags.to_le_bytes());
+    bytes[0x20..0x24].copy_from_slice(&count.to_le_bytes());
+    bytes
+}
+
+/// The library once for each word, so that each question stands for itself.
+fn of_words(made: Made, ask: Ask, words: &[(u32, &[u8])]) -> Vec<Library> {
+    let bytes = made.bytes();
+    words
+        .iter()
+        .map(|&(word, answer)| {
+            let library = Library::asked(bytes.clone(), vec![of_word(ask, word)]);
+            expect(library, ask, &[answer])
+        })
+        .collect()
+}
+
+/// A function of 23 bytes ends the functions, and one of 24 is yielded. Before each answer stands how
+/// many are left.
+fn funcs() -> Vec<Library> {
+    [23, 24]
+        .map(|size: u16| {
+            let mut made = Made::new(&[0]);
+            let mut block = 100u32.to_le_bytes().to_vec();
+            block.extend(func(size, 0, 24));
+            let block_at = made.put(&block);
+            let at = made.segment(0, &typeinfo(3, block_at, 1, 0, 0)) as u32;
+            let asked = vec![question(Ask::Funcs, [at, TYPEINFO_SIZE as u32, 0])];
+            let library = Library::asked(made.bytes(), asked);
+            let one_left = &[0, 1, 0, 0, 0, 0, 0, 0, 0];
+            let none_left = &[0, 0, 0, 0, 0, 0, 0, 0, 0];
+            let mut place = vec![0];
+            place.extend((block_at as u64 + 4).to_le_bytes());
+            place.extend(24u64.to_le_bytes());
+            match size {
+                23 => expect(library, Ask::Funcs, &[one_left, &[9], one_left, &[9]]),
+                _ => expect(library, Ask::Funcs, &[one_left, &place, none_left, &[9]]),
+            }
+        })
+        .into()
+}
+
+/// The library, if the reference's first answers to what is asked are document 01's.
+fn expect(library: Library, ask: Ask, answers: &[&[u8]]) -> Library {
+    let (_, readings) = library
+        .asked
+        .iter()
+        .find(|(question, _)| question.ask == ask)
+        .expect("the edge is asked for");
+    for (reading, answer) in readings.iter().zip(answers) {
+        assert_eq!(reading.answer, *answer, "document 01's edge of {ask:?}");
+    }
+    library
+}

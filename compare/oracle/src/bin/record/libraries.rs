@@ -1,0 +1,74 @@
+//! The libraries that are asked about, and the reference's answers.
+
+use std::collections::HashSet;
+
+use msft_typelib::library::{Question, answers};
+use msft_typelib::readings::Reading;
+
+use crate::file::Item;
+use crate::{changed, edges, made_libraries, questions};
+
+pub struct Library {
+    pub bytes: Vec<u8>,
+    pub asked: Vec<(Question, Vec<Reading>)>,
+}
+
+impl Library {
+    /// The usual questions about a library, and some more.
+    pub fn new(bytes: Vec<u8>, more: Vec<Question>) -> Self {
+        let mut asked = questions::of(&bytes);
+        asked.extend(more);
+        Library::asked(bytes, asked)
+    }
+
+    /// The questions about the typeinfos of a library alone, and some more.
+    pub fn of_members(bytes: Vec<u8>, more: Vec<Question>) -> Self {
+        let mut asked = questions::of_members(&bytes);
+        asked.extend(more);
+        Library::asked(bytes, asked)
+    }
+
+    /// Only those questions, each once.
+    pub fn asked(bytes: Vec<u8>, mut asked: Vec<Question>) -> Self {
+        let mut seen = HashSet::new();
+        asked.retain(|question| seen.insert(*question));
+        let asked = asked
+            .into_iter()
+            .map(|question| (question, answers(&bytes, question)))
+            .collect();
+        Library { bytes, asked }
+    }
+}
+
+/// Our own libraries from real IDL, document 01's edges, made-up libraries, and our own with words
+/// changed.
+pub fn all(own: &[Vec<u8>]) -> Vec<Library> {
+    let mut libraries = Vec::new();
+    libraries.extend(
+        own.iter()
+            .map(|bytes| Library::new(bytes.clone(), questions::of_no_record(bytes))),
+    );
+    libraries.extend(edges::libraries());
+    libraries.extend(made_libraries::all());
+    libraries.extend(changed::all(own));
+    libraries
+}
+
+/// Each library is lent once, before its questions. `first` is the number of the first reading.
+pub fn items(libraries: &[Library], first: u8) -> Vec<Item<'_>> {
+    let mut items = Vec::new();
+    for library in libraries {
+        items.push(Item::Lent(&library.bytes));
+        items.extend(
+            library
+                .asked
+                .iter()
+                .map(|(question, readings)| Item::Question {
+                    number: first + question.ask as u8,
+                    numbers: question.numbers,
+                    readings,
+                }),
+        );
+    }
+    items
+}

@@ -1,0 +1,132 @@
+//! Records what the reference answers to every method of every kind of record, and to every reading
+//! of a library.
+//!
+//! `record` writes `crates/replay/data/records` and `data/libraries`, and `crates/replay/stdout`: what
+//! the replay must print. `record --stats` writes nothing: it prints what the files hold, and fails if
+//! a method or a reading is not tried each way or if a file is not the one that would be written.
+//! `file.rs` says what form the files have.
+
+mod cases;
+mod changed;
+mod edges;
+mod file;
+mod libraries;
+mod made;
+mod made_libraries;
+mod questions;
+mod random;
+mod records;
+mod stats;
+
+use std::path::{Path, PathBuf};
+use std::process::ExitCode;
+use std::{env, fs};
+
+use msft_typelib::library::Ask;
+use msft_typelib::readings::Kind;
+
+/// The program that replays the answers, from the project root.
+const REPLAY: &str = "crates/replay";
+
+/// The folder of real libraries; a relative one is taken from the project root. Only our own
+/// libraries are taken from it: the others are other people's work.
+const CORPUS_VARIABLE: &str = "MSFT_TYPELIB_CORPUS";
+const DEFAULT_CORPUS: &str = "../shared/corpus";
+const OWN_LIBRARY: &str = "own-";
+
+fn main() -> ExitCode {
+    let arguments: Vec<String> = env::args().skip(1).collect();
+    let own = own_libraries();
+    let entries = records::entries(&own);
+    let libraries = libraries::all(&own);
+    let files = files(&entries, &libraries);
+    match arguments.as_slice() {
+        [] => {
+            for (path, bytes) in &files {
+                fs::write(from_project_root(path), bytes).expect("the file can be written");
+                println!("{path}: {} bytes", bytes.len());
+            }
+            ExitCode::SUCCESS
+        }
+        [option] if option == "--stats" => {
+            let records = stats::records(&entries);
+            println!();
+            let readings = stats::libraries(&libraries);
+            println!();
+            println!("every method of a record tried both ways: {records}");
+            println!("every reading of a library tried each way: {readings}");
+            let mut complete = records && readings;
+            for (path, bytes) in &files {
+                let same = fs::read(from_project_root(path)).is_ok_and(|there| there == *bytes);
+                println!(
+                    "{path} as it would be written, {} bytes: {same}",
+                    bytes.len()
+                );
+                complete &= same;
+            }
+            if complete {
+                ExitCode::SUCCESS
+            } else {
+                ExitCode::FAILURE
+            }
+        }
+        _ => {
+            eprintln!("usage: record [--stats]");
+            ExitCode::FAILURE
+        }
+    }
+}
+
+/// The files to write, by their paths from the project root.
+fn files(entries: &[records::Entry], libraries: &[libraries::Library]) -> Vec<(String, Vec<u8>)> {
+    let first = Kind::ALL.len() as u8;
+    let of_records = records::items(entries);
+    let of_libraries = libraries::items(libraries, first);
+    let kinds = Kind::ALL.map(Kind::name);
+    let asks: Vec<&str> = Ask::ALL.iter().map(|ask| ask.name()).collect();
+    let stdout = file::printed(&of_records, "records", 0, &kinds)
+        + &file::printed(&of_libraries, "libraries", first, &asks);
+    vec![
+        (format!("{REPLAY}/data/records"), file::bytes(&of_records)),
+        (
+            format!("{REPLAY}/data/libraries"),
+            file::bytes(&of_libraries),
+        ),
+        (format!("{REPLAY}/stdout"), stdout.into_bytes()),
+    ]
+}
+
+fn from_project_root(path: impl AsRef<Path>) -> PathBuf {
+    Path::new(env!("CARGO_MANIFEST_DIR"))
+        .join("../..")
+        .join(path)
+}
+
+/// The bytes of our own libraries, by name, so that the order does not depend on the machine.
+fn own_libraries() -> Vec<Vec<u8>> {
+    let folder = env::var_os(CORPUS_VARIABLE).unwrap_or(DEFAULT_CORPUS.into());
+    let folder = from_project_root(folder);
+    let listed = fs::read_dir(&folder).unwrap_or_else(|error| {
+        panic!(
+            "{}: {error}; set {CORPUS_VARIABLE} to the folder of libraries",
+            folder.display()
+        )
+    });
+    let mut paths: Vec<PathBuf> = listed
+        .map(|file| file.expect("the folder can be listed").path())
+        .filter(|path| {
+            let name = path.file_name().unwrap_or_default();
+            name.to_string_lossy().starts_with(OWN_LIBRARY)
+        })
+        .collect();
+    paths.sort();
+    assert!(
+        !paths.is_empty(),
+        "{}: no library of ours",
+        folder.display()
+    );
+    paths
+        .iter()
+        .map(|path| fs::read(path).expect("a library can be read"))
+        .collect()
+}

@@ -1,0 +1,46 @@
+// What the program prints.
+use crate::names;
+use crate::progress::Progress;
+use libc::STDOUT_FILENO;
+
+// Why a file cannot be replayed.
+pub(crate) fn trouble(file: &[u8], what: &[u8]) {
+    print(b"the file ");
+    print(file);
+    print(what);
+    print(b"\n");
+}
+
+// That an answer is not the recorded one. The number behind the last answer's is that of the end of
+// the recorded bytes.
+pub(crate) fn difference(item: u32, kind: u8, answer: u32) {
+    print(b"item ");
+    io::print_decimal(STDOUT_FILENO, item as u64);
+    print(b": ");
+    names::print_kind(kind);
+    print(b", answer ");
+    io::print_decimal(STDOUT_FILENO, answer as u64);
+    print(b" differs\n");
+}
+
+pub(crate) fn kind_line(of_kind: Progress) {
+    names::print_kind(of_kind.kind);
+    counts_line(of_kind);
+}
+
+// The end of a line: of a kind, or of a file.
+pub(crate) fn counts_line(counts: Progress) {
+    print(b": ");
+    io::print_decimal(STDOUT_FILENO, counts.questions);
+    print(b" questions, ");
+    io::print_decimal(STDOUT_FILENO, counts.answers);
+    print(b" answers, ");
+    io::print_decimal(STDOUT_FILENO, counts.refusals);
+    print(b" refusals, ");
+    io::print_decimal(STDOUT_FILENO, counts.differences);
+    print(b" differences\n");
+}
+
+pub(crate) fn print(text: &[u8]) {
+    io::write_all(STDOUT_FILENO, text);
+}
