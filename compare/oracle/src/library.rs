@@ -133,11 +133,19 @@ impl Reply for Refused {
 /// Document 01's number for a refusal of `parse`, by the error's case and what it speaks of.
 pub fn parse_refusal(error: Error) -> u8 {
     match error {
-        Error::TooShort { context, .. } if context == "MSFT header" => 2,
+        Error::TooShort {
+            context: "MSFT header",
+            ..
+        } => 2,
         Error::BadMagic { .. } => 3,
         // A negative count, made a size, is too large to be multiplied.
-        Error::InvalidData { context } if context == "typeinfo count overflow" => 4,
-        Error::TooShort { context, .. } if context == "segment directory" => 5,
+        Error::InvalidData {
+            context: "typeinfo count overflow",
+        } => 4,
+        Error::TooShort {
+            context: "segment directory",
+            ..
+        } => 5,
         _ => panic!("no refusal of parse: {error:?}"),
     }
 }
@@ -146,7 +154,9 @@ pub fn parse_refusal(error: Error) -> u8 {
 pub fn typeinfo_refusal(error: Error) -> u8 {
     match error {
         Error::TypeInfoOutOfRange { .. } => 6,
-        Error::InvalidData { context } if context == "typeinfo segment missing" => 7,
+        Error::InvalidData {
+            context: "typeinfo segment missing",
+        } => 7,
         Error::TooShort { .. } => 8,
         _ => panic!("no refusal of typeinfo: {error:?}"),
     }

@@ -2,6 +2,7 @@
 // width. Of a text a byte says whether it is one and not null, and its place is an answer of its own,
 // as is a decimal's.
 use crate::bytes;
+use crate::bytes::Bytes;
 use crate::bytes::number;
 use crate::bytes::numbers;
 use crate::bytes::refusal;
@@ -12,15 +13,12 @@ use crate::compare::same;
 use crate::compare::same_place;
 use crate::progress;
 use crate::progress::Progress;
-use records::answer::Place;
 use records::answer::PlaceAnswer;
 use records::types::ConstValue;
 use typelib::constants::ConstAnswer;
 use util::F32Read;
 use util::F64Read;
 use util::I64Read;
-use util::U32Read;
-use util::U64Read;
 
 pub(crate) fn same_constant(recorded: &[u8], before: Progress, answer: ConstAnswer) -> Progress {
     match answer {
@@ -35,14 +33,8 @@ fn same_value(recorded: &[u8], before: Progress, value: ConstValue) -> Progress 
         ConstValue::R4(x) => same_f32(recorded, before, x),
         ConstValue::R8(x) => same_f64(recorded, before, vt, x),
         ConstValue::Date(x) => same_f64(recorded, before, vt, x),
-        ConstValue::R4Nan(bits) => same(recorded, before, numbers(2, vt, 4, bits as u64)),
-        ConstValue::R8Nan(bits) => same(recorded, before, numbers(2, vt, 8, bits)),
-        ConstValue::DateNan(bits) => same(recorded, before, numbers(2, vt, 8, bits)),
         ConstValue::Cy(x) => same_i64(recorded, before, vt, x),
         ConstValue::I8(x) => same_i64(recorded, before, vt, x),
-        ConstValue::UI8(x) => same(recorded, before, numbers(2, vt, 8, x)),
-        ConstValue::Filetime(x) => same(recorded, before, numbers(2, vt, 8, x)),
-        ConstValue::NullBstr => same(recorded, before, numbers(2, vt, 1, 0)),
         ConstValue::Bstr(place) => {
             let told = same(recorded, before, numbers(2, vt, 1, 1));
             same_place(recorded, told, PlaceAnswer::Value(place))
@@ -51,29 +43,40 @@ fn same_value(recorded: &[u8], before: Progress, value: ConstValue) -> Progress 
             let told = same(recorded, before, number(2, vt));
             same_place(recorded, told, PlaceAnswer::Value(place))
         }
-        _ => same_word(recorded, before, vt, value),
+        _ => same(recorded, before, unsigned(vt, value)),
+    }
+}
+
+// Constants whose bits are at hand.
+fn unsigned(vt: u64, value: ConstValue) -> Bytes {
+    match value {
+        ConstValue::R4Nan(bits) => numbers(2, vt, 4, bits as u64),
+        ConstValue::R8Nan(bits) => numbers(2, vt, 8, bits),
+        ConstValue::DateNan(bits) => numbers(2, vt, 8, bits),
+        ConstValue::UI8(x) => numbers(2, vt, 8, x),
+        ConstValue::Filetime(x) => numbers(2, vt, 8, x),
+        ConstValue::NullBstr => numbers(2, vt, 1, 0),
+        _ => word(vt, value),
     }
 }
 
 // Constants of at most four bytes that are no floats.
-fn same_word(recorded: &[u8], before: Progress, vt: u64, value: ConstValue) -> Progress {
+fn word(vt: u64, value: ConstValue) -> Bytes {
     match value {
-        ConstValue::I1(x) => same(recorded, before, numbers(2, vt, 1, i8_bits(x))),
-        ConstValue::UI1(x) => same(recorded, before, numbers(2, vt, 1, x as u64)),
-        ConstValue::Bool(x) => same(recorded, before, numbers(2, vt, 1, if x { 1 } else { 0 })),
-        ConstValue::I2(x) => same(recorded, before, numbers(2, vt, 2, i16_bits(x))),
-        ConstValue::UI2(x) => same(recorded, before, numbers(2, vt, 2, x as u64)),
-        ConstValue::I4(x) => same(recorded, before, numbers(2, vt, 4, i32_bits(x))),
-        ConstValue::Error(x) => same(recorded, before, numbers(2, vt, 4, i32_bits(x))),
-        ConstValue::Int(x) => same(recorded, before, numbers(2, vt, 4, i32_bits(x))),
-        ConstValue::Hresult(x) => same(recorded, before, numbers(2, vt, 4, i32_bits(x))),
-        ConstValue::UI4(x) => same(recorded, before, numbers(2, vt, 4, x as u64)),
-        ConstValue::UInt(x) => same(recorded, before, numbers(2, vt, 4, x as u64)),
-        ConstValue::Raw { vt: code, bits } => {
-            same(recorded, before, numbers(2, code as u64, 4, i32_bits(bits)))
-        }
+        ConstValue::I1(x) => numbers(2, vt, 1, i8_bits(x)),
+        ConstValue::UI1(x) => numbers(2, vt, 1, x as u64),
+        ConstValue::Bool(x) => numbers(2, vt, 1, if x { 1 } else { 0 }),
+        ConstValue::I2(x) => numbers(2, vt, 2, i16_bits(x)),
+        ConstValue::UI2(x) => numbers(2, vt, 2, x as u64),
+        ConstValue::I4(x) => numbers(2, vt, 4, i32_bits(x)),
+        ConstValue::Error(x) => numbers(2, vt, 4, i32_bits(x)),
+        ConstValue::Int(x) => numbers(2, vt, 4, i32_bits(x)),
+        ConstValue::Hresult(x) => numbers(2, vt, 4, i32_bits(x)),
+        ConstValue::UI4(x) => numbers(2, vt, 4, x as u64),
+        ConstValue::UInt(x) => numbers(2, vt, 4, x as u64),
+        ConstValue::Raw { vt: code, bits } => numbers(2, code as u64, 4, i32_bits(bits)),
         // Empty, Null and Void hold nothing.
-        _ => same(recorded, before, number(2, vt)),
+        _ => number(2, vt),
     }
 }
 

@@ -6,6 +6,8 @@ use crate::compare::same_u16;
 use crate::compare::same_u32;
 use crate::compare::same_usize;
 use crate::progress::Progress;
+use records::answer::I32Answer;
+use records::answer::U32Answer;
 use records::answer::UsizeAnswer;
 use typelib::TypeLib;
 
@@ -16,42 +18,40 @@ pub(crate) fn replay(
     reading: u8,
     before: Progress,
 ) -> Progress {
-    if reading < 13 {
-        return first(lent, lib, recorded, reading, before);
-    }
-    second(lent, lib, recorded, reading, before)
-}
-
-fn first(lent: &[u8], lib: TypeLib, recorded: &[u8], reading: u8, before: Progress) -> Progress {
     match reading {
-        1 => same_u32(recorded, before, lib.format_version(lent)),
-        2 => same_i32(recorded, before, lib.lib_guid_offset(lent)),
-        3 => same_u32(recorded, before, lib.lcid(lent)),
-        4 => same_u32(recorded, before, lib.lcid2(lent)),
-        5 => same_u32(recorded, before, lib.varflags(lent)),
         6 => same_u8(recorded, before, lib.syskind(lent)),
         7 => same_bool(recorded, before, lib.has_help_dll(lent)),
-        8 => same_u32(recorded, before, lib.version(lent)),
         9 => same_u16(recorded, before, lib.version_major(lent)),
         10 => same_u16(recorded, before, lib.version_minor(lent)),
-        11 => same_u32(recorded, before, lib.flags(lent)),
         12 => same_usize(recorded, before, UsizeAnswer::Value(lib.typeinfo_count())),
-        _ => before,
+        1 | 3 | 4 | 5 | 8 | 11 => same_u32(recorded, before, word(lent, lib, reading)),
+        _ => same_i32(recorded, before, signed(lent, lib, reading)),
     }
 }
 
-fn second(lent: &[u8], lib: TypeLib, recorded: &[u8], reading: u8, before: Progress) -> Progress {
+fn word(lent: &[u8], lib: TypeLib, reading: u8) -> U32Answer {
     match reading {
-        13 => same_i32(recorded, before, lib.helpstring_offset(lent)),
-        14 => same_i32(recorded, before, lib.helpstringcontext(lent)),
-        15 => same_i32(recorded, before, lib.helpcontext(lent)),
-        16 => same_i32(recorded, before, lib.nametablecount(lent)),
-        17 => same_i32(recorded, before, lib.nametablechars(lent)),
-        18 => same_i32(recorded, before, lib.name_offset(lent)),
-        19 => same_i32(recorded, before, lib.helpfile_offset(lent)),
-        20 => same_i32(recorded, before, lib.custom_data_offset(lent)),
-        21 => same_i32(recorded, before, lib.dispatchpos(lent)),
-        22 => same_i32(recorded, before, lib.nimpinfos(lent)),
-        _ => before,
+        1 => lib.format_version(lent),
+        3 => lib.lcid(lent),
+        4 => lib.lcid2(lent),
+        5 => lib.varflags(lent),
+        8 => lib.version(lent),
+        _ => lib.flags(lent),
+    }
+}
+
+fn signed(lent: &[u8], lib: TypeLib, reading: u8) -> I32Answer {
+    match reading {
+        2 => lib.lib_guid_offset(lent),
+        13 => lib.helpstring_offset(lent),
+        14 => lib.helpstringcontext(lent),
+        15 => lib.helpcontext(lent),
+        16 => lib.nametablecount(lent),
+        17 => lib.nametablechars(lent),
+        18 => lib.name_offset(lent),
+        19 => lib.helpfile_offset(lent),
+        20 => lib.custom_data_offset(lent),
+        21 => lib.dispatchpos(lent),
+        _ => lib.nimpinfos(lent),
     }
 }

@@ -17,6 +17,7 @@ mod members;
 mod names;
 mod progress;
 mod report;
+mod steps;
 mod tables;
 mod words;
 

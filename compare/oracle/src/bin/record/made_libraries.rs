@@ -171,7 +171,7 @@ fn header() -> Library {
     let mut made = Made::new(&[]);
     for offset in (0x04..HEADER_SIZE).step_by(4) {
         if offset != 0x20 {
-            made.word(offset, 0x0403_0201 * (offset as u32 / 4) ^ 0x8000_0000);
+            made.word(offset, (0x0403_0201 * (offset as u32 / 4)) ^ 0x8000_0000);
         }
     }
     made.word(0x14, 0x8765_4EED);
@@ -236,15 +236,9 @@ const STORED_VALUES: [u64; 24] = [
 ];
 
 /// Every code with each of the values; texts that are null, of a negative length, empty, short and
-/// longer than the file.
+/// longer than the file; and offsets around the file's end.
 fn stored_constants() -> Library {
-    let mut table = Vec::new();
-    let mut asked = Vec::new();
-    let mut put = |code: u16, value: &[u8]| {
-        asked.push(of_word(Ask::ConstValue, table.len() as u32));
-        table.extend(code.to_le_bytes());
-        table.extend(value);
-    };
+    let mut table = Constants::default();
     for length in [
         u32::MAX,
         0xFFFF_FFFE,
@@ -254,31 +248,40 @@ fn stored_constants() -> Library {
         0x7FFF_FFFF,
         0xFFFF,
     ] {
-        put(8, &words(&[length, 0x0063_6261]));
+        table.put(8, &words(&[length, 0x0063_6261]));
     }
     for code in stored_codes().filter(|&code| code != 8) {
         for value in STORED_VALUES {
-            // A code without a sign or a fraction needs few of the values.
-            let number = code < 2 || code == 24 || code > 25 && code != 64;
-            if !number || value < 2 {
-                put(code, &value.to_le_bytes());
+            // A code that has no value, or that is only kept, needs few of them.
+            let few = code < 2 || code == 24 || code > 25 && code != 64;
+            if !few || value < 2 {
+                table.put(code, &value.to_le_bytes());
             }
         }
     }
-    put(14, &[0xDD; 16]);
+    table.put(14, &[0xDD; 16]);
     let mut made = Made::new(&[]);
-    made.segment(CONSTANT_SEGMENT, &table);
-    let mut asked = asked;
-    asked.extend(questions_without_table(made.end()));
-    Library::asked(made.bytes(), asked)
+    made.segment(CONSTANT_SEGMENT, &table.bytes);
+    let end = made.end() as u32;
+    let behind = [end - 1, end, 0x7FFF_FFFF].map(|offset| of_word(Ask::ConstValue, offset));
+    table.asked.extend(behind);
+    Library::asked(made.bytes(), table.asked)
 }
 
-/// Offsets at and behind the file's end.
-fn questions_without_table(end: usize) -> Vec<Question> {
-    let offsets = [end as u32 - 1, end as u32, 0x7FFF_FFFF];
-    offsets
-        .map(|offset| of_word(Ask::ConstValue, offset))
-        .into()
+/// A table of constants, and a question for each.
+#[derive(Default)]
+struct Constants {
+    bytes: Vec<u8>,
+    asked: Vec<Question>,
+}
+
+impl Constants {
+    fn put(&mut self, code: u16, value: &[u8]) {
+        let offset = self.bytes.len() as u32;
+        self.asked.push(of_word(Ask::ConstValue, offset));
+        self.bytes.extend(code.to_le_bytes());
+        self.bytes.extend(value);
+    }
 }
 
 /// Constants that end where the file does, and ones that lack their last byte.
@@ -509,61 +512,58 @@ fn block_library(size: u32, records: &[Vec<u8>], funcs: u16, vars: u16, behind: 
     Library::of_members(made.bytes(), Vec::new())
 }
 
+/// Words behind a block: member identifiers and offsets of names.
+const BEHIND: [u32; 10] = [1, 2, 0x6000_0000, u32::MAX, 0, 16, 32, 48, 3, 0x7FFF_FFFF];
+
 /// Functions and variables that end before, at and behind the end of their block and of the file, and
 /// that are too short; and counts that are more or fewer than the records.
 fn members() -> Vec<Library> {
-    let behind = [1, 2, 0x6000_0000, u32::MAX, 0, 16, 32, 48, 3, 0x7FFF_FFFF];
+    let (f, f23, f40) = (func(24, 0, 24), func(23, 0, 24), func(40, 0, 40));
+    let (v, v24) = (var(20, 20), var(24, 24));
+    let long = func(36, 1, 36);
+    let of = |size, records: &[&Vec<u8>], funcs, vars, behind: &[u32]| {
+        let records: Vec<Vec<u8>> = records.iter().map(|&record| record.clone()).collect();
+        block_library(size, &records, funcs, vars, behind)
+    };
     vec![
         // Two functions and two variables, with names; the third has none in UTF-8.
-        block_library(
-            104,
-            &[func(36, 1, 36), func(28, 0, 28), var(20, 20), var(20, 20)],
-            2,
-            2,
-            &behind,
-        ),
+        of(104, &[&long, &func(28, 0, 28), &v, &v], 2, 2, &BEHIND),
         // The last function ends past the block, and the file goes on or ends there.
-        block_library(25, &[func(24, 0, 24), func(40, 0, 40)], 2, 0, &behind),
-        block_library(25, &[func(24, 0, 24), func(40, 0, 40)], 2, 0, &[]),
-        block_library(25, &[func(24, 0, 24), func(41, 0, 40)], 2, 0, &[]),
+        of(25, &[&f, &f40], 2, 0, &BEHIND),
+        of(25, &[&f, &f40], 2, 0, &[]),
+        of(25, &[&f, &func(41, 0, 40)], 2, 0, &[]),
         // The second function starts where the block ends.
-        block_library(24, &[func(24, 0, 24), func(24, 0, 24)], 2, 0, &behind),
+        of(24, &[&f, &f], 2, 0, &BEHIND),
         // Too short, by one byte and altogether.
-        block_library(48, &[func(24, 0, 24), func(23, 0, 24)], 2, 1, &behind),
-        block_library(48, &[func(0, 0, 24), func(24, 0, 24)], 2, 1, &behind),
-        block_library(40, &[var(20, 20), var(19, 20)], 0, 2, &behind),
-        block_library(40, &[var(20, 20), var(20, 20)], 0, 2, &[]),
-        block_library(40, &[var(20, 20), var(21, 20)], 0, 2, &[]),
-        block_library(41, &[var(0xFFFF, 20), var(20, 20)], 0, 0xFFFF, &behind),
+        of(48, &[&f, &f23], 2, 1, &BEHIND),
+        of(48, &[&func(0, 0, 24), &f], 2, 1, &BEHIND),
+        of(40, &[&v, &var(19, 20)], 0, 2, &BEHIND),
+        of(40, &[&v, &v], 0, 2, &[]),
+        of(40, &[&v, &var(21, 20)], 0, 2, &[]),
+        of(41, &[&var(0xFFFF, 20), &v], 0, 0xFFFF, &BEHIND),
         // Fewer are declared than there are, and more.
-        block_library(
-            96,
-            &[func(24, 0, 24), var(24, 24), var(24, 24)],
-            1,
-            1,
-            &behind,
-        ),
-        block_library(48, &[func(24, 0, 24), func(24, 0, 24)], 9, 9, &behind),
-        // Parameters: some, more than the record holds, over its fixed part, and a negative count.
-        block_library(
-            200,
-            &[
-                func(48, 2, 48),
-                func(48, 4, 48),
-                func(48, 5, 48),
-                func(24, 2, 24),
-                func(32, -1, 32),
-                func(32, i16::MIN, 32),
-                func(32, i16::MAX, 32),
-            ],
-            7,
-            0,
-            &behind,
-        ),
+        of(96, &[&f, &v24, &v24], 1, 1, &BEHIND),
+        of(48, &[&f, &f], 9, 9, &BEHIND),
+        params(),
         // A block whose size is no signed number, and one that is cut off.
-        block_library(0xFFFF_FFFF, &[func(24, 0, 24), var(20, 20)], 1, 1, &behind),
-        block_library(0, &[], 1, 1, &[]),
+        of(0xFFFF_FFFF, &[&f, &v], 1, 1, &BEHIND),
+        of(0, &[], 1, 1, &[]),
     ]
+}
+
+/// Parameters: some, more than the record holds, over its fixed part, and a negative count.
+fn params() -> Library {
+    let counts = [
+        (48, 2),
+        (48, 4),
+        (48, 5),
+        (24, 2),
+        (32, -1),
+        (32, i16::MIN),
+        (32, i16::MAX),
+    ];
+    let funcs = counts.map(|(size, params)| func(size, params, usize::from(size)));
+    block_library(200, &funcs, funcs.len() as u16, 0, &BEHIND)
 }
 
 /// Variables behind functions of 1 to 23 bytes, which are skipped all the same, and behind one of 0,

@@ -48,28 +48,7 @@ fn main() -> ExitCode {
             }
             ExitCode::SUCCESS
         }
-        [option] if option == "--stats" => {
-            let records = stats::records(&entries);
-            println!();
-            let readings = stats::libraries(&libraries);
-            println!();
-            println!("every method of a record tried both ways: {records}");
-            println!("every reading of a library tried each way: {readings}");
-            let mut complete = records && readings;
-            for (path, bytes) in &files {
-                let same = fs::read(from_project_root(path)).is_ok_and(|there| there == *bytes);
-                println!(
-                    "{path} as it would be written, {} bytes: {same}",
-                    bytes.len()
-                );
-                complete &= same;
-            }
-            if complete {
-                ExitCode::SUCCESS
-            } else {
-                ExitCode::FAILURE
-            }
-        }
+        [option] if option == "--stats" => stats(&entries, &libraries, &files),
         _ => {
             eprintln!("usage: record [--stats]");
             ExitCode::FAILURE
@@ -77,8 +56,34 @@ fn main() -> ExitCode {
     }
 }
 
-/// The files to write, by their paths from the project root.
-fn files(entries: &[records::Entry], libraries: &[libraries::Library]) -> Vec<(String, Vec<u8>)> {
+/// A file's path from the project root, and its bytes.
+type File = (String, Vec<u8>);
+
+fn stats(entries: &[records::Entry], libraries: &[libraries::Library], files: &[File]) -> ExitCode {
+    let records = stats::records(entries);
+    println!();
+    let readings = stats::libraries(libraries);
+    println!();
+    println!("every method of a record tried both ways: {records}");
+    println!("every reading of a library tried each way: {readings}");
+    let mut complete = records && readings;
+    for (path, bytes) in files {
+        let same = fs::read(from_project_root(path)).is_ok_and(|there| there == *bytes);
+        println!(
+            "{path} as it would be written, {} bytes: {same}",
+            bytes.len()
+        );
+        complete &= same;
+    }
+    if complete {
+        ExitCode::SUCCESS
+    } else {
+        ExitCode::FAILURE
+    }
+}
+
+/// The files to write.
+fn files(entries: &[records::Entry], libraries: &[libraries::Library]) -> Vec<File> {
     let first = Kind::ALL.len() as u8;
     let of_records = records::items(entries);
     let of_libraries = libraries::items(libraries, first);

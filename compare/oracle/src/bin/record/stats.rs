@@ -228,8 +228,42 @@ fn sees_all_cases(libraries: &[Library]) -> bool {
     missing.is_empty()
 }
 
+/// How one reading was answered.
+#[derive(Default)]
+struct Answered<'a> {
+    questions: usize,
+    values: usize,
+    different_values: HashSet<&'a [u8]>,
+    refusals: BTreeMap<u8, usize>,
+}
+
+impl<'a> Answered<'a> {
+    fn of(libraries: &'a [Library], ask: Ask) -> Self {
+        let mut answered = Answered::default();
+        let all = libraries.iter().flat_map(|library| &library.asked);
+        for (_, readings) in all.filter(|(question, _)| question.ask == ask) {
+            answered.questions += 1;
+            for Reading { answer, .. } in readings {
+                if answer[0] == VALUE {
+                    answered.values += 1;
+                    answered.different_values.insert(answer);
+                } else {
+                    *answered.refusals.entry(answer[0]).or_default() += 1;
+                }
+            }
+        }
+        answered
+    }
+
+    /// Whether the reading was seen to give values and every refusal that it can give.
+    fn each_way(&self, ask: Ask) -> bool {
+        let refused = |number| self.refusals.contains_key(number);
+        self.values > 0 && refusals_of(ask).iter().all(refused)
+    }
+}
+
 /// Prints for each reading how often it was asked and answered, with a value or a refusal. Replies
-/// whether each was seen to give values and every refusal that it can give, and every case.
+/// whether each was answered each way, and every case was seen.
 pub fn libraries(libraries: &[Library]) -> bool {
     let questions: usize = libraries.iter().map(|library| library.asked.len()).sum();
     println!("{} libraries, {questions} questions", libraries.len());
@@ -239,38 +273,22 @@ pub fn libraries(libraries: &[Library]) -> bool {
     );
     let mut complete = true;
     for &ask in Ask::ALL {
-        let mut asked = 0;
-        let mut values = 0;
-        let mut different = HashSet::new();
-        let mut refusals: BTreeMap<u8, usize> = BTreeMap::new();
-        let all = libraries.iter().flat_map(|library| &library.asked);
-        for (_, readings) in all.filter(|(question, _)| question.ask == ask) {
-            asked += 1;
-            for reading in readings {
-                match reading.answer[0] {
-                    VALUE => {
-                        values += 1;
-                        different.insert(&reading.answer);
-                    }
-                    number => *refusals.entry(number).or_default() += 1,
-                }
-            }
-        }
-        let missing = refusals_of(ask)
+        let answered = Answered::of(libraries, ask);
+        let refusals: Vec<String> = answered
+            .refusals
             .iter()
-            .any(|number| !refusals.contains_key(number));
-        let gap = values == 0 || missing;
-        complete &= !gap;
+            .map(|(number, times)| format!("{number}: {times}"))
+            .collect();
+        let each_way = answered.each_way(ask);
+        complete &= each_way;
         println!(
-            "{:<24}{asked:>10}{values:>9}{:>11}  {}{}",
+            "{:<24}{:>10}{:>9}{:>11}  {}{}",
             ask.name(),
-            different.len(),
-            refusals
-                .iter()
-                .map(|(number, times)| format!("{number}: {times}"))
-                .collect::<Vec<_>>()
-                .join(", "),
-            if gap { "  not each way" } else { "" },
+            answered.questions,
+            answered.values,
+            answered.different_values.len(),
+            refusals.join(", "),
+            if each_way { "" } else { "  not each way" },
         );
     }
     complete & sees_all_cases(libraries)
