@@ -38,8 +38,7 @@ pub(crate) fn refusal(first: u8, width: usize, second_width: usize) -> Bytes {
 
 // Whether the bytes of the answer are recorded at `at`.
 pub(crate) fn are_at(recorded: &[u8], at: usize, answer: Bytes) -> bool {
-    let size = recorded.len();
-    if size <= at {
+    if recorded.len() <= at {
         return false;
     }
     if recorded[at] != answer.first {
@@ -48,26 +47,33 @@ pub(crate) fn are_at(recorded: &[u8], at: usize, answer: Bytes) -> bool {
     if answer.first != 0 {
         return true;
     }
+    let value = behind(recorded, at, 1);
     let width = answer.width;
-    if size - at - 1 < width {
-        return false;
-    }
-    is_number_at(recorded, at + 1, width, answer.number)
-        && is_number_at(recorded, at + 1 + width, answer.second_width, answer.second)
+    begins_with_number(value, width, answer.number)
+        && begins_with_number(behind(value, 0, width), answer.second_width, answer.second)
 }
 
-fn is_number_at(recorded: &[u8], at: usize, width: usize, number: u64) -> bool {
+// What is recorded behind the `count` bytes at `at`; nothing where they are not all there.
+pub(crate) fn behind(recorded: &[u8], at: usize, count: usize) -> &[u8] {
     let size = recorded.len();
     if size < at {
-        return false;
+        return &recorded[0..0];
     }
-    if size - at < width {
+    if size - at < count {
+        return &recorded[0..0];
+    }
+    let start = at + count;
+    &recorded[start..]
+}
+
+fn begins_with_number(recorded: &[u8], width: usize, number: u64) -> bool {
+    if recorded.len() < width {
         return false;
     }
     let mut rest = number;
     let mut i: usize = 0;
     while i < width {
-        if recorded[at + i] != (rest % 256) as u8 {
+        if recorded[i] != (rest % 256) as u8 {
             return false;
         }
         rest = rest / 256;
@@ -78,19 +84,12 @@ fn is_number_at(recorded: &[u8], at: usize, width: usize, number: u64) -> bool {
 
 // Whether the first `len` bytes of `text` are recorded at `at`, as a text.
 pub(crate) fn is_text_at(recorded: &[u8], at: usize, text: &[u8], len: usize) -> bool {
-    are_at(recorded, at, number(1, len as u64)) && are_letters_behind(recorded, at, text, len)
+    are_at(recorded, at, number(1, len as u64))
+        && begins_with_letters(behind(recorded, at, 2), text, len)
 }
 
-// Whether the first `len` bytes of `text` are recorded behind the two bytes at `at`.
-fn are_letters_behind(recorded: &[u8], at: usize, text: &[u8], len: usize) -> bool {
-    let size = recorded.len();
-    if size < at {
-        return false;
-    }
-    if size - at < 2 {
-        return false;
-    }
-    if size - at - 2 < len {
+fn begins_with_letters(recorded: &[u8], text: &[u8], len: usize) -> bool {
+    if recorded.len() < len {
         return false;
     }
     if text.len() < len {
@@ -98,7 +97,7 @@ fn are_letters_behind(recorded: &[u8], at: usize, text: &[u8], len: usize) -> bo
     }
     let mut i: usize = 0;
     while i < len {
-        if recorded[at + 2 + i] != text[i] {
+        if recorded[i] != text[i] {
             return false;
         }
         i += 1;
@@ -116,26 +115,20 @@ pub(crate) fn end(recorded: &[u8], at: usize, width: usize, second_width: usize)
     if recorded[at] != 0 {
         return at + 1;
     }
-    let left = size - at - 1;
-    if left < width {
+    let left = behind(behind(recorded, at, 1), width, second_width).len();
+    if size < left {
         return size;
     }
-    if left - width < second_width {
-        return size;
-    }
-    at + 1 + width + second_width
+    size - left
 }
 
 // Where the text that is recorded at `at` ends.
 pub(crate) fn text_end(recorded: &[u8], at: usize) -> usize {
-    let size = recorded.len();
-    if size <= at {
-        return size;
+    let length = behind(recorded, at, 1);
+    if length.len() == 0 {
+        return recorded.len();
     }
-    if size - at < 2 {
-        return size;
-    }
-    end(recorded, at, 1, wide(recorded[at + 1]))
+    end(recorded, at, 1, wide(length[0]))
 }
 
 fn wide(x: u8) -> usize {

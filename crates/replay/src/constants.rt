@@ -81,7 +81,8 @@ fn word(vt: u64, value: ConstValue) -> Bytes {
 }
 
 // Whether the code is recorded, and then the value, which the callers compare: they make of the
-// recorded bits what the answer is, for a proof is asked of the way back.
+// recorded bits, behind the first byte and the code, what the answer is, for a proof is asked of the way
+// back.
 fn coded(recorded: &[u8], before: Progress, vt: u64, is_same: bool, width: usize) -> Progress {
     let at = before.at;
     let both = bytes::are_at(recorded, at, number(2, vt)) && is_same;
@@ -89,7 +90,7 @@ fn coded(recorded: &[u8], before: Progress, vt: u64, is_same: bool, width: usize
 }
 
 fn same_i64(recorded: &[u8], before: Progress, vt: u64, x: i64) -> Progress {
-    let is_same = match util::read_i64_le(value_of(recorded, before), 0) {
+    let is_same = match util::read_i64_le(bytes::behind(recorded, before.at, 3), 0) {
         I64Read::Value(y) => x == y,
         I64Read::Nothing => false,
     };
@@ -99,7 +100,7 @@ fn same_i64(recorded: &[u8], before: Progress, vt: u64, x: i64) -> Progress {
 // Floats are the same if they are equal and so are their inverses, which tell one zero from the other.
 // None is a NaN: of that the bits are answered.
 fn same_f32(recorded: &[u8], before: Progress, x: f32) -> Progress {
-    let is_same = match util::read_f32_le(value_of(recorded, before), 0) {
+    let is_same = match util::read_f32_le(bytes::behind(recorded, before.at, 3), 0) {
         F32Read::Value(y) => x == y && 1.0 / x == 1.0 / y,
         F32Read::Nan(_) => false,
         F32Read::Nothing => false,
@@ -108,24 +109,10 @@ fn same_f32(recorded: &[u8], before: Progress, x: f32) -> Progress {
 }
 
 fn same_f64(recorded: &[u8], before: Progress, vt: u64, x: f64) -> Progress {
-    let is_same = match util::read_f64_le(value_of(recorded, before), 0) {
+    let is_same = match util::read_f64_le(bytes::behind(recorded, before.at, 3), 0) {
         F64Read::Value(y) => x == y && 1.0 / x == 1.0 / y,
         F64Read::Nan(_) => false,
         F64Read::Nothing => false,
     };
     coded(recorded, before, vt, is_same, 8)
-}
-
-// The recorded bytes from an answer's value on, behind the first byte and the code; no bytes where
-// that is past their end.
-fn value_of(recorded: &[u8], before: Progress) -> &[u8] {
-    let at = before.at;
-    let size = recorded.len();
-    if size < at {
-        return &recorded[0..0];
-    }
-    if size - at < 3 {
-        return &recorded[0..0];
-    }
-    &recorded[at + 3..]
 }

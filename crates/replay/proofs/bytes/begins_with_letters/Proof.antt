@@ -1,13 +1,13 @@
 use Prim.Native.Nat.{_-_}
 use borrow.Author.Needs.{needs}
-use Rattle.replay.proofs.bytes.is_number_at.Statement.{statement}
-use Rattle.replay.proofs.bytes.is_number_at.Tie as tie
+use Rattle.replay.proofs.bytes.begins_with_letters.Statement.{statement}
+use Rattle.replay.proofs.bytes.begins_with_letters.Tie as tie
 
 abbrev Inv-loop : tie.InvT-loop
-Inv-loop recorded at width number size rest₀ i₀ rest i = Unit {0}
+Inv-loop recorded text len i₀ i = Unit {0}
 
 abbrev μ-loop : tie.MeasureT-loop
-μ-loop recorded at width number size rest₀ i₀ rest i = width - i
+μ-loop recorded text len i₀ i = len - i
 
 returns : tie.Need-returns Inv-loop μ-loop
 returns c = search needs
@@ -18,14 +18,11 @@ returns-2 c = search needs
 loop-holds : tie.Need-loop-holds Inv-loop μ-loop
 loop-holds c = search needs
 
-add-if3 : tie.Need-add-if3 Inv-loop μ-loop
-add-if3 c = search needs
-
 shared-slice-read-if3 : tie.Need-shared-slice-read-if3 Inv-loop μ-loop
 shared-slice-read-if3 c = search needs
 
-cast-if3 : tie.Need-cast-if3 Inv-loop μ-loop
-cast-if3 c = search needs
+shared-slice-read-if3-2 : tie.Need-shared-slice-read-if3-2 Inv-loop μ-loop
+shared-slice-read-if3-2 c = search needs
 
 returns-3 : tie.Need-returns-3 Inv-loop μ-loop
 returns-3 c = search needs
@@ -42,8 +39,8 @@ loop-again c = search needs
 returns-4 : tie.Need-returns-4 Inv-loop μ-loop
 returns-4 c = search needs
 
-pub is-number-at-spec : {M : Type 1} → statement M
-is-number-at-spec =
+pub begins-with-letters-spec : {M : Type 1} → statement M
+begins-with-letters-spec =
     tie.close
     (tie.spec
     Inv-loop
@@ -51,9 +48,8 @@ is-number-at-spec =
     returns
     returns-2
     loop-holds
-    add-if3
     shared-slice-read-if3
-    cast-if3
+    shared-slice-read-if3-2
     returns-3
     add-i
     loop-less
