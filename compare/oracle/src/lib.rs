@@ -1,15 +1,19 @@
 //! The reference reader, built from its own files, and what this project asks of it.
 //!
 //! The reference's crate root and its `Error` type are not among the given files. This file stands
-//! in for both. `readings`, `library` and `enumerate` are ours; they are modules of the same crate because
-//! the constructors of the reference's records are `pub(crate)`.
+//! in for both. `readings`, `library`, `enumerate`, `sheet` and what feeds them are ours; they are modules
+//! of the same crate because the constructors of the reference's records are `pub(crate)`.
 
 // One `mod` for each of the reference's files, written by `build.rs`.
 include!(concat!(env!("OUT_DIR"), "/modules.rs"));
 
+pub mod coverage;
 pub mod enumerate;
+pub mod inputs;
 pub mod library;
+pub mod random;
 pub mod readings;
+pub mod sheet;
 
 pub use arraydesc::{ArrayDesc, SafeArrayBound};
 pub use custdata::CustDataEntry;

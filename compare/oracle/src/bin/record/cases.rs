@@ -5,7 +5,7 @@ use std::collections::HashSet;
 use msft_typelib::readings::Kind;
 
 use crate::made::{self, Record};
-use crate::random::Random;
+use msft_typelib::random::Random;
 
 /// One question to all methods of a kind.
 #[derive(Clone, PartialEq, Eq, Hash)]

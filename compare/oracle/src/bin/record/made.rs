@@ -2,7 +2,7 @@
 
 use msft_typelib::readings::Kind;
 
-use crate::random::Random;
+use msft_typelib::random::Random;
 
 /// A record's bytes and the index to ask it for.
 pub struct Record {

@@ -14,7 +14,6 @@ mod libraries;
 mod made;
 mod made_libraries;
 mod questions;
-mod random;
 mod records;
 mod stats;
 

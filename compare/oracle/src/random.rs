@@ -1,4 +1,4 @@
-//! A small generator of numbers (splitmix64), so that a run always makes the same records.
+//! A small generator of numbers (splitmix64), so that a run always makes the same inputs.
 
 pub struct Random(u64);
 
@@ -17,6 +17,11 @@ impl Random {
     /// A number below `bound`, which is at least 1.
     pub fn below(&mut self, bound: usize) -> usize {
         (self.number() % bound as u64) as usize
+    }
+
+    /// True `times` times out of a hundred.
+    pub fn percent(&mut self, times: usize) -> bool {
+        self.below(100) < times
     }
 
     pub fn one_of<T: Copy>(&mut self, choices: &[T]) -> T {

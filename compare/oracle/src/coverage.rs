@@ -1,0 +1,162 @@
+//! What a run's inputs covered: a comparison says nothing about a case that never came up.
+
+use std::collections::BTreeMap;
+use std::fmt::{self, Debug, Display};
+
+use crate::sheet::{self, Watch, refusal};
+
+/// Tree codes, reference codes, and the kinds of a type's low four bits.
+const TREE_CODES: u8 = 6;
+const REFERENCE_CODES: u8 = 3;
+const KINDS: u8 = 16;
+
+/// The constant codes that an inline constant can give.
+const INLINE_CODES: [u16; 14] = [0, 1, 2, 3, 10, 11, 16, 17, 18, 19, 22, 23, 24, 25];
+
+/// Codes of stored constants that have cases of their own, and above them the file time.
+const STORED_CODES: u16 = 26;
+const FILE_TIME: u16 = 64;
+
+/// How often each thing came up.
+type Counts<T> = BTreeMap<T, u64>;
+
+/// The replies of a run, and what its sheets are made of.
+#[derive(Default)]
+pub struct Coverage {
+    pub sheets: u64,
+    pub longest: usize,
+    refusals: Counts<u8>,
+    made_of: Parts,
+}
+
+/// What sheets are made of. Codes of stored constants without a case of their own are kept apart.
+#[derive(Default)]
+struct Parts {
+    trees: Counts<u8>,
+    references: Counts<u8>,
+    kinds: Counts<u8>,
+    inline: Counts<u16>,
+    stored: Counts<u16>,
+    stored_raw: Counts<u16>,
+}
+
+impl Coverage {
+    /// The reference's sheet of the input, counted.
+    pub fn sheet(&mut self, input: &[u8], room: usize) -> Result<Vec<u8>, u8> {
+        let mut parts = Parts::default();
+        let reply = sheet::watched_sheet(input, room, &mut parts);
+        match &reply {
+            Ok(sheet) => {
+                self.sheets += 1;
+                self.longest = self.longest.max(sheet.len());
+                self.made_of.add(parts);
+            }
+            Err(number) => self.refused(*number),
+        }
+        reply
+    }
+
+    /// Counts a refusal that followed without asking the reference again.
+    pub fn refused(&mut self, number: u8) {
+        add_one(&mut self.refusals, number);
+    }
+
+    /// What document 01 names and the run did not reach.
+    pub fn missing(&self) -> Vec<String> {
+        let parts = &self.made_of;
+        let own_codes = (0..STORED_CODES)
+            .filter(|code| ![9, 12, 13, 15].contains(code))
+            .chain([FILE_TIME]);
+        let mut missing = not_in("refusal", refusal::ALL, &self.refusals);
+        missing.extend(not_in("tree", 0..TREE_CODES, &parts.trees));
+        missing.extend(not_in("reference", 0..REFERENCE_CODES, &parts.references));
+        missing.extend(not_in("kind", 0..KINDS, &parts.kinds));
+        missing.extend(not_in("inline constant", INLINE_CODES, &parts.inline));
+        missing.extend(not_in("stored constant", own_codes, &parts.stored));
+        if parts.stored_raw.is_empty() {
+            missing.push("stored constant of another code".into());
+        }
+        missing
+    }
+}
+
+impl Display for Coverage {
+    fn fmt(&self, f: &mut fmt::Formatter) -> fmt::Result {
+        let parts = &self.made_of;
+        writeln!(f, "sheets: {}, longest {} bytes", self.sheets, self.longest)?;
+        writeln!(f, "refusals: {}", listed(&self.refusals))?;
+        writeln!(f, "kinds: {}", listed(&parts.kinds))?;
+        writeln!(f, "tree codes: {}", listed(&parts.trees))?;
+        writeln!(f, "reference codes: {}", listed(&parts.references))?;
+        writeln!(f, "inline constants: {}", listed(&parts.inline))?;
+        writeln!(f, "stored constants: {}", listed(&parts.stored))?;
+        let times: u64 = parts.stored_raw.values().sum();
+        let codes = parts.stored_raw.len();
+        write!(f, "stored constants of {codes} other codes: {times}")
+    }
+}
+
+impl Parts {
+    fn add(&mut self, other: Parts) {
+        add_all(&mut self.trees, other.trees);
+        add_all(&mut self.references, other.references);
+        add_all(&mut self.kinds, other.kinds);
+        add_all(&mut self.inline, other.inline);
+        add_all(&mut self.stored, other.stored);
+        add_all(&mut self.stored_raw, other.stored_raw);
+    }
+}
+
+impl Watch for Parts {
+    fn tree(&mut self, code: u8) {
+        add_one(&mut self.trees, code);
+    }
+
+    fn constant(&mut self, code: u16, stored: bool) {
+        let counts = match (stored, code) {
+            (false, _) => &mut self.inline,
+            (true, 9 | 12 | 13 | 15 | STORED_CODES..FILE_TIME) => &mut self.stored_raw,
+            (true, 0..=FILE_TIME) => &mut self.stored,
+            (true, _) => &mut self.stored_raw,
+        };
+        add_one(counts, code);
+    }
+
+    fn reference(&mut self, code: u8) {
+        add_one(&mut self.references, code);
+    }
+
+    fn base(&mut self, kind: u8) {
+        add_one(&mut self.kinds, kind);
+    }
+}
+
+fn add_one<T: Ord>(counts: &mut Counts<T>, what: T) {
+    *counts.entry(what).or_default() += 1;
+}
+
+fn add_all<T: Ord>(counts: &mut Counts<T>, more: Counts<T>) {
+    for (what, times) in more {
+        *counts.entry(what).or_default() += times;
+    }
+}
+
+fn listed<T: Display>(counts: &Counts<T>) -> String {
+    let entries: Vec<String> = counts
+        .iter()
+        .map(|(what, times)| format!("{what} x{times}"))
+        .collect();
+    entries.join(", ")
+}
+
+fn not_in<T: Ord + Debug>(
+    word: &str,
+    wanted: impl IntoIterator<Item = T>,
+    counts: &Counts<T>,
+) -> Vec<String> {
+    wanted
+        .into_iter()
+        .filter(|what| !counts.contains_key(what))
+        .map(|what| format!("{word} {what:?}"))
+        .collect()
+}
