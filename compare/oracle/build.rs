@@ -1,4 +1,5 @@
-//! Declares the reference's own files as modules of this package's library.
+//! Declares the reference's own files as modules of this package's library, and links the product
+//! if it is there.
 //!
 //! The files are compiled where they lie, unchanged. Only a list of module declarations is
 //! written, into cargo's output folder; `src/lib.rs` includes it.
@@ -9,6 +10,11 @@ use std::{env, fs};
 /// The folder that holds the reference's `src/`; a relative one is taken from the project root.
 const SOURCE_VARIABLE: &str = "MSFT_TYPELIB_SRC";
 const DEFAULT_SOURCE: &str = "../shared/docs/src";
+const SOURCE_HINT: &str = "set MSFT_TYPELIB_SRC to the folder that holds the reference's src/";
+
+/// The product's static library; a relative path is taken from the project root. Without it,
+/// nothing that calls the product is built.
+const ARCHIVE_VARIABLE: &str = "MSFT_TYPELIB_ARCHIVE";
 
 /// The given files. A clone also holds a `lib.rs` and the `Error` type; `src/lib.rs` here stands
 /// in for both, so they are not built.
@@ -32,6 +38,11 @@ const MODULES: [&str; 16] = [
 ];
 
 fn main() {
+    declare_reference();
+    link_product();
+}
+
+fn declare_reference() {
     println!("cargo::rerun-if-env-changed={SOURCE_VARIABLE}");
 
     let source = env::var_os(SOURCE_VARIABLE).unwrap_or(DEFAULT_SOURCE.into());
@@ -41,7 +52,7 @@ fn main() {
         .join("src");
     let mut declarations = String::new();
     for module in MODULES {
-        let file = absolute(&folder.join(module).with_extension("rs"));
+        let file = absolute(&folder.join(module).with_extension("rs"), SOURCE_HINT);
         println!("cargo::rerun-if-changed={}", file.display());
         declarations += &format!("#[path = {file:?}]\nmod {module};\n");
     }
@@ -50,17 +61,36 @@ fn main() {
     fs::write(&list, declarations).expect("cargo's output folder can be written");
 }
 
+/// Links the archive and says so to the sources by the cfg `product`.
+fn link_product() {
+    println!("cargo::rustc-check-cfg=cfg(product)");
+    println!("cargo::rerun-if-env-changed={ARCHIVE_VARIABLE}");
+    let Some(archive) = env::var_os(ARCHIVE_VARIABLE).filter(|path| !path.is_empty()) else {
+        return;
+    };
+    let archive = cargo_folder("CARGO_MANIFEST_DIR")
+        .join("../..")
+        .join(archive);
+    let archive = absolute(
+        &archive,
+        "set MSFT_TYPELIB_ARCHIVE to the product's static library",
+    );
+    let folder = archive.parent().expect("a file lies in a folder");
+    let name = archive.file_name().expect("a file has a name");
+    println!("cargo::rerun-if-changed={}", archive.display());
+    println!("cargo::rustc-link-search=native={}", folder.display());
+    println!("cargo::rustc-link-lib=static:+verbatim={}", name.display());
+    println!("cargo::rustc-cfg=product");
+}
+
 /// The folder that cargo names in the given variable.
 fn cargo_folder(variable: &str) -> PathBuf {
     env::var_os(variable).expect("set by cargo").into()
 }
 
-/// A module's path is read from the place of the list of declarations, so it must be absolute.
-fn absolute(file: &Path) -> PathBuf {
-    file.canonicalize().unwrap_or_else(|error| {
-        panic!(
-            "{}: {error}; set {SOURCE_VARIABLE} to the folder that holds the reference's src/",
-            file.display()
-        )
-    })
+/// Paths are read from the place of the list of declarations and by the linker, so they must be
+/// absolute.
+fn absolute(file: &Path, hint: &str) -> PathBuf {
+    file.canonicalize()
+        .unwrap_or_else(|error| panic!("{}: {error}; {hint}", file.display()))
 }

@@ -51,14 +51,9 @@ impl Coverage {
                 self.longest = self.longest.max(sheet.len());
                 self.made_of.add(parts);
             }
-            Err(number) => self.refused(*number),
+            Err(number) => add_one(&mut self.refusals, *number),
         }
         reply
-    }
-
-    /// Counts a refusal that followed without asking the reference again.
-    pub fn refused(&mut self, number: u8) {
-        add_one(&mut self.refusals, number);
     }
 
     /// What document 01 names and the run did not reach.

@@ -11,6 +11,8 @@ pub mod coverage;
 pub mod enumerate;
 pub mod inputs;
 pub mod library;
+#[cfg(product)]
+pub mod product;
 pub mod random;
 pub mod readings;
 pub mod sheet;

@@ -5,6 +5,8 @@
 //! compares and `bench_sheets` times; so this is also written as one would write it for speed: one
 //! pass into a vector, with lengths and counts filled in behind.
 
+use std::mem;
+
 use crate::{
     ArrayDesc, ConstValue, Error, FuncRecord, Guid, ImpFile, ImpInfo, ParameterInfo,
     ResolvedHreftype, TypeDescription, TypeInfoEntry, TypeKind, TypeLib, VarRecord,
@@ -73,6 +75,18 @@ pub fn sheet(bytes: &[u8], room: usize) -> Result<Vec<u8>, u8> {
     watched_sheet(bytes, room, &mut ())
 }
 
+/// The sheet as [`sheet`] gives it, with a listener.
+pub fn watched_sheet<W: Watch>(bytes: &[u8], room: usize, watch: &mut W) -> Result<Vec<u8>, u8> {
+    let mut out = Vec::new();
+    lay_out(bytes, room, &mut out, watch).map(|()| out)
+}
+
+/// Lays the sheet into a vector that may have been used before, in place of what it held. After a
+/// refusal it holds nothing of use.
+pub fn sheet_into(bytes: &[u8], room: usize, out: &mut Vec<u8>) -> Result<(), u8> {
+    lay_out(bytes, room, out, &mut ())
+}
+
 /// What the sheet program prints for this input, without the newline.
 pub fn program_line(input: &[u8]) -> String {
     if input.len() > PROGRAM_BYTES {
@@ -84,43 +98,31 @@ pub fn program_line(input: &[u8]) -> String {
     }
 }
 
-/// The sheet as [`sheet`] gives it, with a listener.
-pub fn watched_sheet<W: Watch>(bytes: &[u8], room: usize, watch: &mut W) -> Result<Vec<u8>, u8> {
+fn lay_out<W: Watch>(
+    bytes: &[u8],
+    room: usize,
+    out: &mut Vec<u8>,
+    watch: &mut W,
+) -> Result<(), u8> {
     if bytes.len() > MOST_BYTES {
         return Err(refusal::OVER_LONG);
     }
     let lib = TypeLib::parse(bytes).map_err(|error| parse_refusal(&error))?;
-    let count = lib.typeinfo_count();
-    if count > MOST_TYPES {
+    if lib.typeinfo_count() > MOST_TYPES {
         return Err(refusal::TOO_MANY_TYPES);
     }
-
-    let mut writer = Writer::new(&lib, room.min(MOST_BYTES), watch);
-    writer.put((count as u32).to_le_bytes());
-    let mut length_at = writer.bytes.len();
-    for _ in 0..=count {
-        writer.put([0; 4]);
-    }
-    let mut body_at = writer.bytes.len();
-    writer.library();
-    writer.fill_in(length_at, writer.length_since(body_at));
-    for index in 0..count {
-        length_at += 4;
-        body_at = writer.bytes.len();
-        let typeinfo = lib
-            .typeinfo(index)
-            .map_err(|error| typeinfo_refusal(&error))?;
-        if writer.is_full {
-            look_for_refusals(&lib, &typeinfo)?;
-        } else {
-            writer.typeinfo(&typeinfo)?;
-            writer.fill_in(length_at, writer.length_since(body_at));
-        }
-    }
-    if writer.is_full {
-        return Err(refusal::NO_SPACE);
-    }
-    Ok(writer.bytes)
+    out.clear();
+    out.reserve(room.min(bytes.len()));
+    let mut writer = Writer {
+        lib: &lib,
+        bytes: mem::take(out),
+        left: room.min(MOST_BYTES),
+        is_full: false,
+        watch,
+    };
+    let reply = writer.sheet();
+    *out = writer.bytes;
+    reply
 }
 
 /// The number for a failed `parse`. Every negative count fails it as a count that overflows.
@@ -234,15 +236,34 @@ struct Writer<'l, 'a, 'w, W> {
     watch: &'w mut W,
 }
 
-impl<'l, 'a, 'w, W: Watch> Writer<'l, 'a, 'w, W> {
-    fn new(lib: &'l TypeLib<'a>, room: usize, watch: &'w mut W) -> Self {
-        Writer {
-            lib,
-            bytes: Vec::with_capacity(room.min(lib.data().len())),
-            left: room,
-            is_full: false,
-            watch,
+impl<'a, W: Watch> Writer<'_, 'a, '_, W> {
+    /// Contents, then bodies. The contents are filled in once a body's length is known.
+    fn sheet(&mut self) -> Result<(), u8> {
+        let count = self.lib.typeinfo_count();
+        self.put((count as u32).to_le_bytes());
+        let mut length_at = self.bytes.len();
+        for _ in 0..=count {
+            self.put([0; 4]);
         }
+        let mut body_at = self.bytes.len();
+        self.library();
+        self.fill_in(length_at, self.length_since(body_at));
+        for index in 0..count {
+            let typeinfo = self.lib.typeinfo(index);
+            let typeinfo = typeinfo.map_err(|error| typeinfo_refusal(&error))?;
+            if self.is_full {
+                look_for_refusals(self.lib, &typeinfo)?;
+                continue;
+            }
+            length_at += 4;
+            body_at = self.bytes.len();
+            self.typeinfo(&typeinfo)?;
+            self.fill_in(length_at, self.length_since(body_at));
+        }
+        if self.is_full {
+            return Err(refusal::NO_SPACE);
+        }
+        Ok(())
     }
 
     #[inline(always)]

@@ -1,0 +1,58 @@
+//! Compares what a sheet program prints with what the reference's would.
+
+use std::io::Write;
+use std::path::Path;
+use std::process::{ChildStdin, Command, Stdio};
+use std::thread;
+
+use msft_typelib::sheet::program_line;
+
+/// Some inputs are written in pieces of this many bytes: a program that takes one read for all of
+/// its input then sees too little.
+const PIECE: usize = 1_000;
+
+/// One input in so many is written in pieces.
+const IN_PIECES: usize = 4;
+
+/// What is wrong with what the program prints for this input.
+pub fn difference(program: &Path, input: &[u8]) -> Option<String> {
+    let mut child = Command::new(program)
+        .stdin(Stdio::piped())
+        .stdout(Stdio::piped())
+        .spawn()
+        .unwrap_or_else(|error| panic!("{}: {error}", program.display()));
+    let stdin = child.stdin.take().expect("it was asked for");
+    let output = thread::scope(|scope| {
+        scope.spawn(|| write_input(stdin, input));
+        child.wait_with_output().expect("a started program ends")
+    });
+    let right = program_line(input) + "\n";
+    if output.stdout != right.as_bytes() {
+        let printed = String::from_utf8_lossy(&output.stdout);
+        return Some(format!(
+            "printed {}, the Rust's {}",
+            short(&printed),
+            short(&right)
+        ));
+    }
+    (!output.status.success()).then(|| format!("ended with {}", output.status))
+}
+
+/// A program that has read enough may close its input, so a failed write is no fault.
+fn write_input(mut stdin: ChildStdin, input: &[u8]) {
+    let piece = match input.len() % IN_PIECES {
+        0 => PIECE,
+        _ => input.len().max(1),
+    };
+    for piece in input.chunks(piece) {
+        if stdin.write_all(piece).is_err() {
+            return;
+        }
+    }
+}
+
+/// The beginning of a printed line.
+fn short(line: &str) -> String {
+    let beginning: String = line.chars().take(80).collect();
+    format!("{beginning:?} ({} bytes)", line.len())
+}

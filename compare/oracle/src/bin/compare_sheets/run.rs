@@ -1,0 +1,121 @@
+//! One run of comparisons: what was tried, what it covered, and what differed.
+
+use std::path::Path;
+use std::process::ExitCode;
+use std::time::Instant;
+use std::{env, fs};
+
+use msft_typelib::coverage::Coverage;
+use msft_typelib::inputs::Input;
+use msft_typelib::sheet::{MOST_BYTES, PROGRAM_BYTES};
+
+#[cfg(product)]
+use crate::call::Caller;
+use crate::shrink::{Effort, shrink};
+use crate::{program, stopped};
+
+/// How many differences are shown before a run is given up.
+const MOST_DIFFERENCES: usize = 5;
+
+/// How many smaller inputs are tried for one that differs: by call, and by starting a program.
+#[cfg(product)]
+const EFFORT_CALL: Effort = Effort(6_000);
+const EFFORT_PROGRAM: Effort = Effort(600);
+
+/// The most bytes of a small input that are printed.
+const MOST_PRINTED: usize = 1_000;
+
+pub struct Run {
+    coverage: Coverage,
+    tried: u64,
+    differences: usize,
+    started: Instant,
+    #[cfg(product)]
+    caller: Caller,
+}
+
+impl Run {
+    pub fn new() -> Self {
+        Run {
+            coverage: Coverage::default(),
+            tried: 0,
+            differences: 0,
+            started: Instant::now(),
+            #[cfg(product)]
+            caller: Caller::new(),
+        }
+    }
+
+    /// Whether so much differs that more would say nothing new.
+    pub fn is_hopeless(&self) -> bool {
+        self.differences >= MOST_DIFFERENCES
+    }
+
+    /// Compares the product's call; without a product, only counts what the input covers.
+    pub fn call(&mut self, input: &Input) {
+        stopped::trying(&input.name);
+        self.tried += 1;
+        let expected = self.coverage.sheet(&input.bytes, MOST_BYTES);
+        #[cfg(product)]
+        if let Some(difference) = self.caller.difference(&input.bytes, &expected) {
+            let small = shrink(&input.bytes, EFFORT_CALL, |bytes| self.call_differs(bytes));
+            self.show(input, &difference, &small);
+        }
+        #[cfg(not(product))]
+        drop(expected);
+    }
+
+    #[cfg(product)]
+    fn call_differs(&mut self, bytes: &[u8]) -> bool {
+        let expected = msft_typelib::sheet::sheet(bytes, MOST_BYTES);
+        self.caller.difference(bytes, &expected).is_some()
+    }
+
+    /// Compares what the program prints.
+    pub fn program(&mut self, path: &Path, input: &Input) {
+        stopped::trying(&input.name);
+        self.tried += 1;
+        if input.bytes.len() <= PROGRAM_BYTES {
+            let _ = self.coverage.sheet(&input.bytes, PROGRAM_BYTES);
+        }
+        if let Some(difference) = program::difference(path, &input.bytes) {
+            let differs = |bytes: &[u8]| program::difference(path, bytes).is_some();
+            let small = shrink(&input.bytes, EFFORT_PROGRAM, differs);
+            self.show(input, &difference, &small);
+        }
+    }
+
+    /// Prints a difference, and keeps the smaller input that shows one.
+    fn show(&mut self, input: &Input, difference: &str, small: &[u8]) {
+        self.differences += 1;
+        println!("DIFFERENCE at {}: {difference}", input.name);
+        let file = format!("difference-{}.tlb", self.differences);
+        let path = env::temp_dir().join(file);
+        match fs::write(&path, small) {
+            Ok(()) => println!("  smaller: {} bytes, in {}", small.len(), path.display()),
+            Err(error) => println!("  smaller: {} bytes ({error})", small.len()),
+        }
+        if small.len() <= MOST_PRINTED {
+            let hex: String = small.iter().map(|byte| format!("{byte:02x}")).collect();
+            println!("  {hex}");
+        }
+    }
+
+    /// Prints the counts. A whole run fails if something did not come up, too.
+    pub fn end(self, whole: bool) -> ExitCode {
+        stopped::done();
+        println!("{}", self.coverage);
+        let seconds = self.started.elapsed().as_secs_f64();
+        println!("{} inputs in {seconds:.1} s", self.tried);
+        let missing = self.coverage.missing();
+        if whole && !missing.is_empty() {
+            println!("did not come up: {}", missing.join(", "));
+        }
+        println!("differences: {}", self.differences);
+        if self.differences == 0 && !(whole && !missing.is_empty()) {
+            ExitCode::SUCCESS
+        } else {
+            ExitCode::FAILURE
+        }
+    }
+}
