@@ -17,6 +17,9 @@ const INLINE_CODES: [u16; 14] = [0, 1, 2, 3, 10, 11, 16, 17, 18, 19, 22, 23, 24,
 const STORED_CODES: u16 = 26;
 const FILE_TIME: u16 = 64;
 
+/// The fields that may hold nothing.
+const OPTIONAL: [&str; 6] = ["GUID", "name", "memid", "constant", "import file", "text"];
+
 /// How often each thing came up.
 type Counts<T> = BTreeMap<T, u64>;
 
@@ -38,6 +41,8 @@ struct Parts {
     inline: Counts<u16>,
     stored: Counts<u16>,
     stored_raw: Counts<u16>,
+    there: Counts<&'static str>,
+    not_there: Counts<&'static str>,
 }
 
 impl Coverage {
@@ -68,6 +73,8 @@ impl Coverage {
         missing.extend(not_in("kind", 0..KINDS, &parts.kinds));
         missing.extend(not_in("inline constant", INLINE_CODES, &parts.inline));
         missing.extend(not_in("stored constant", own_codes, &parts.stored));
+        missing.extend(not_in("a", OPTIONAL, &parts.there));
+        missing.extend(not_in("no", OPTIONAL, &parts.not_there));
         if parts.stored_raw.is_empty() {
             missing.push("stored constant of another code".into());
         }
@@ -87,7 +94,9 @@ impl Display for Coverage {
         writeln!(f, "stored constants: {}", listed(&parts.stored))?;
         let times: u64 = parts.stored_raw.values().sum();
         let codes = parts.stored_raw.len();
-        write!(f, "stored constants of {codes} other codes: {times}")
+        writeln!(f, "stored constants of {codes} other codes: {times}")?;
+        writeln!(f, "fields that hold something: {}", listed(&parts.there))?;
+        write!(f, "fields that hold nothing: {}", listed(&parts.not_there))
     }
 }
 
@@ -99,6 +108,8 @@ impl Parts {
         add_all(&mut self.inline, other.inline);
         add_all(&mut self.stored, other.stored);
         add_all(&mut self.stored_raw, other.stored_raw);
+        add_all(&mut self.there, other.there);
+        add_all(&mut self.not_there, other.not_there);
     }
 }
 
@@ -123,6 +134,14 @@ impl Watch for Parts {
 
     fn base(&mut self, kind: u8) {
         add_one(&mut self.kinds, kind);
+    }
+
+    fn opt(&mut self, what: &'static str, is_there: bool) {
+        let counts = match is_there {
+            true => &mut self.there,
+            false => &mut self.not_there,
+        };
+        add_one(counts, what);
     }
 }
 

@@ -66,6 +66,8 @@ pub trait Watch {
     fn reference(&mut self, _code: u8) {}
     /// A type, by the low four bits that decide its base.
     fn base(&mut self, _kind: u8) {}
+    /// An opt field or a text, by what it would hold, and whether it holds it.
+    fn opt(&mut self, _what: &'static str, _is_there: bool) {}
 }
 
 impl Watch for () {}
@@ -295,6 +297,7 @@ impl<'a, W: Watch> Writer<'_, 'a, '_, W> {
     }
 
     fn guid(&mut self, guid: Option<Guid>) {
+        self.watch.opt("GUID", guid.is_some());
         match guid {
             None => self.put([0]),
             Some(guid) => {
@@ -306,7 +309,9 @@ impl<'a, W: Watch> Writer<'_, 'a, '_, W> {
 
     /// An opt name: its length is a byte in the library too.
     fn name(&mut self, offset: Option<i32>) {
-        match offset.and_then(|offset| self.lib.name_bytes(offset)) {
+        let name = offset.and_then(|offset| self.lib.name_bytes(offset));
+        self.watch.opt("name", name.is_some());
+        match name {
             None => self.put([0]),
             Some(name) => {
                 self.put([1, name.len() as u8]);
@@ -316,6 +321,7 @@ impl<'a, W: Watch> Writer<'_, 'a, '_, W> {
     }
 
     fn memid(&mut self, memid: Option<i32>) {
+        self.watch.opt("memid", memid.is_some());
         match memid {
             None => self.put([0]),
             Some(memid) => {
@@ -530,7 +536,9 @@ impl<'a, W: Watch> Writer<'_, 'a, '_, W> {
         } else {
             self.put(info.guid_offset().to_le_bytes());
         }
-        match file.and_then(|file| Some((file, file.filename_bytes()?))) {
+        let file = file.and_then(|file| Some((file, file.filename_bytes()?)));
+        self.watch.opt("import file", file.is_some());
+        match file {
             None => self.put([0]),
             Some((file, name)) => {
                 self.put([1]);
@@ -546,9 +554,9 @@ impl<'a, W: Watch> Writer<'_, 'a, '_, W> {
 
     /// An opt constant, from the number that names it.
     fn constant(&mut self, number: Option<i32>) {
-        let Some((number, value)) =
-            number.and_then(|number| Some((number, self.lib.const_value(number)?)))
-        else {
+        let constant = number.and_then(|number| Some((number, self.lib.const_value(number)?)));
+        self.watch.opt("constant", constant.is_some());
+        let Some((number, value)) = constant else {
             self.put([0]);
             return;
         };
@@ -576,8 +584,12 @@ impl<'a, W: Watch> Writer<'_, 'a, '_, W> {
             Cy(value) | I8(value) => self.put(value.to_le_bytes()),
             UI8(value) | Filetime(value) => self.put(value.to_le_bytes()),
             Decimal(bytes) => self.put_bytes(bytes),
-            NullBstr => self.put([0]),
+            NullBstr => {
+                self.watch.opt("text", false);
+                self.put([0]);
+            }
             Bstr(text) => {
+                self.watch.opt("text", true);
                 self.put([1]);
                 self.put((text.len() as u32).to_le_bytes());
                 self.put_bytes(text);

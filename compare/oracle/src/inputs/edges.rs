@@ -8,8 +8,8 @@ use crate::sheet::{MOST_BYTES, MOST_TYPES, PROGRAM_BYTES};
 /// How many pointers the trees at the edge of "too deep" have.
 const POINTERS: [usize; 6] = [1, 30, 31, 32, 33, 34];
 
-/// The most types of the file that asks for the most descriptions, and of one that is quick.
-const HOSTILE_TYPES: [usize; 2] = [8_100, 50];
+/// Types and depth of libraries that hold many descriptions; the first takes seconds.
+const HOSTILE: [(usize, usize); 4] = [(8_100, 32), (8_100, 33), (500, 32), (20, 32)];
 
 /// Inputs of at most a little more than the sheet program takes.
 pub fn small() -> Vec<Input> {
@@ -39,11 +39,9 @@ pub fn small() -> Vec<Input> {
         ));
         inputs.push(Input::new(format!("{length} bytes"), padded(length)));
     }
-    for types in HOSTILE_TYPES {
-        for levels in [32, 33] {
-            let name = format!("{types} types with trees of {levels}");
-            inputs.push(Input::new(name, large::most_descriptions(types, levels)));
-        }
+    for (types, levels) in HOSTILE {
+        let name = format!("{types} types with trees of {levels}");
+        inputs.push(Input::new(name, large::many_descriptions(types, levels)));
     }
     inputs
 }
@@ -73,6 +71,14 @@ pub fn large() -> Vec<Input> {
         ),
         ("a scattered chain", large::scattered_chain()),
         ("many functions", large::many_functions(2)),
+        (
+            "overlapping tables, trees of 32",
+            large::overlapping(4_000, 32),
+        ),
+        (
+            "overlapping tables, trees of 33",
+            large::overlapping(4_000, 33),
+        ),
         (
             "coclasses with one chain",
             large::coclasses(100, 50_000, -1),

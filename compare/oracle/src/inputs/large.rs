@@ -1,12 +1,12 @@
 //! Libraries whose size or sheet is at its limit, and small ones that ask for much work.
 
-use super::layout::{self, Layout, TYPEINFO_SIZE, set_word, words};
+use super::layout::{self, HEADER_SIZE, Layout, TYPEINFO_SIZE, set_word, words};
 use crate::sheet::{MOST_BYTES, MOST_TYPES, PROGRAM_BYTES};
 
 const REFERENCE_SIZE: usize = 16;
 
 /// The bytes of a library's header, directory and one typeinfo.
-const FIXED: usize = 84 + 240 + TYPEINFO_SIZE;
+const FIXED: usize = HEADER_SIZE + 240 + TYPEINFO_SIZE;
 
 /// A typeinfo of this kind with no GUID, no name, no block and the given base and counts.
 pub fn typeinfo(kind: u32, base: i32, counts: u32) -> Vec<u8> {
@@ -128,19 +128,11 @@ pub fn many_functions(params: usize) -> Vec<u8> {
     layout.bytes()
 }
 
-/// A library that the sheet program takes and that holds the most descriptions we can put there:
+/// A library that the sheet program takes and that holds hundreds of millions of descriptions:
 /// every type is the same one, with one function whose parameters are all as deep as a tree may
 /// be. `levels` is the depth of the trees; above 32 they are refused.
-pub fn most_descriptions(types: usize, levels: usize) -> Vec<u8> {
-    let mut descriptors = Vec::new();
-    for level in 1..levels {
-        let inner = if level + 1 == levels {
-            0x8000_0018
-        } else {
-            8 * level as u32
-        };
-        descriptors.extend(words([26, inner]));
-    }
+pub fn many_descriptions(types: usize, levels: usize) -> Vec<u8> {
+    let descriptors = pointers(levels);
     let before = FIXED + 4 * (types - 1) + descriptors.len() + 4 + 24;
     let params = (PROGRAM_BYTES - before) / 12;
     let size = 24 + 12 * params;
@@ -155,6 +147,34 @@ pub fn most_descriptions(types: usize, levels: usize) -> Vec<u8> {
     let block = layout.block(block);
     layout.memoffset(0, block);
     layout.bytes()
+}
+
+/// The same with billions of descriptions: the offset table is also the table of parameters, and
+/// the header the function's fixed part.
+pub fn overlapping(types: usize, levels: usize) -> Vec<u8> {
+    let table = 4 * types;
+    let mut layout = Layout::new(vec![0; types]);
+    let record_size = HEADER_SIZE - 4 + table;
+    layout.header_word(0x04, record_size as u32);
+    layout.header_word(0x18, (table / 12) as u32);
+    let mut typeinfo = typeinfo(0, -1, 1);
+    set_word(&mut typeinfo, 0x04, 0);
+    layout.table(layout::TYPEINFOS, typeinfo);
+    layout.table(layout::DESCRIPTORS, pointers(levels));
+    layout.bytes()
+}
+
+/// Type descriptors of pointers, of which the first is a tree of this many descriptions.
+fn pointers(levels: usize) -> Vec<u8> {
+    let mut descriptors = Vec::new();
+    for level in 1..levels {
+        let inner = match level + 1 == levels {
+            true => 0x8000_0018,
+            false => 8 * level as u32,
+        };
+        descriptors.extend(words([26, inner]));
+    }
+    descriptors
 }
 
 /// A library whose sheet has this many bytes: two constants share one text, so that the library

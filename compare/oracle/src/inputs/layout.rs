@@ -2,7 +2,7 @@
 //! blocks of functions and variables, in the order in which they are given.
 
 /// Sizes of the fixed parts of a library.
-const HEADER_SIZE: usize = 0x54;
+pub const HEADER_SIZE: usize = 0x54;
 const SEGMENTS: usize = 15;
 const DIRECTORY_ENTRY_SIZE: usize = 16;
 pub const TYPEINFO_SIZE: usize = 100;

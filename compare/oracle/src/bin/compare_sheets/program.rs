@@ -4,15 +4,17 @@ use std::io::Write;
 use std::path::Path;
 use std::process::{ChildStdin, Command, Stdio};
 use std::thread;
+use std::time::Duration;
 
 use msft_typelib::sheet::program_line;
 
-/// Some inputs are written in pieces of this many bytes: a program that takes one read for all of
-/// its input then sees too little.
+/// Some inputs are written in pieces of this many bytes, with a pause behind the first: a program
+/// that takes one read for all of its input then sees too little.
 const PIECE: usize = 1_000;
+const PAUSE: Duration = Duration::from_millis(10);
 
 /// One input in so many is written in pieces.
-const IN_PIECES: usize = 4;
+const IN_PIECES: usize = 7;
 
 /// What is wrong with what the program prints for this input.
 pub fn difference(program: &Path, input: &[u8]) -> Option<String> {
@@ -40,13 +42,16 @@ pub fn difference(program: &Path, input: &[u8]) -> Option<String> {
 
 /// A program that has read enough may close its input, so a failed write is no fault.
 fn write_input(mut stdin: ChildStdin, input: &[u8]) {
-    let piece = match input.len() % IN_PIECES {
-        0 => PIECE,
-        _ => input.len().max(1),
-    };
-    for piece in input.chunks(piece) {
+    if input.len() % IN_PIECES != 0 {
+        let _ = stdin.write_all(input);
+        return;
+    }
+    for (number, piece) in input.chunks(PIECE).enumerate() {
         if stdin.write_all(piece).is_err() {
             return;
+        }
+        if number == 0 {
+            thread::sleep(PAUSE);
         }
     }
 }

@@ -2,7 +2,7 @@
 
 use std::path::Path;
 use std::process::ExitCode;
-use std::time::Instant;
+use std::time::{Duration, Instant};
 use std::{env, fs};
 
 use msft_typelib::coverage::Coverage;
@@ -11,16 +11,14 @@ use msft_typelib::sheet::{MOST_BYTES, PROGRAM_BYTES};
 
 #[cfg(product)]
 use crate::call::Caller;
-use crate::shrink::{Effort, shrink};
+use crate::shrink::shrink;
 use crate::{program, stopped};
 
 /// How many differences are shown before a run is given up.
 const MOST_DIFFERENCES: usize = 5;
 
-/// How many smaller inputs are tried for one that differs: by call, and by starting a program.
-#[cfg(product)]
-const EFFORT_CALL: Effort = Effort(6_000);
-const EFFORT_PROGRAM: Effort = Effort(600);
+/// How long a smaller input is sought for one that differs.
+const SHRINKING: Duration = Duration::from_secs(20);
 
 /// The most bytes of a small input that are printed.
 const MOST_PRINTED: usize = 1_000;
@@ -58,7 +56,7 @@ impl Run {
         let expected = self.coverage.sheet(&input.bytes, MOST_BYTES);
         #[cfg(product)]
         if let Some(difference) = self.caller.difference(&input.bytes, &expected) {
-            let small = shrink(&input.bytes, EFFORT_CALL, |bytes| self.call_differs(bytes));
+            let small = shrink(&input.bytes, SHRINKING, |bytes| self.call_differs(bytes));
             self.show(input, &difference, &small);
         }
         #[cfg(not(product))]
@@ -80,7 +78,7 @@ impl Run {
         }
         if let Some(difference) = program::difference(path, &input.bytes) {
             let differs = |bytes: &[u8]| program::difference(path, bytes).is_some();
-            let small = shrink(&input.bytes, EFFORT_PROGRAM, differs);
+            let small = shrink(&input.bytes, SHRINKING, differs);
             self.show(input, &difference, &small);
         }
     }

@@ -1,27 +1,21 @@
 //! Makes an input that shows a difference smaller and plainer, as long as it still shows one.
 
-/// How many smaller inputs are tried.
-pub struct Effort(pub usize);
+use std::time::{Duration, Instant};
 
-/// A smaller input for which `differs` still holds. It is cut at the end, pieces of it are taken
-/// out, and pieces are set to zero; pieces get smaller each round.
-pub fn shrink(
-    input: &[u8],
-    Effort(effort): Effort,
-    mut differs: impl FnMut(&[u8]) -> bool,
-) -> Vec<u8> {
+/// A smaller input for which `differs` still holds, sought for at most so long. It is cut at the
+/// end, pieces of it are taken out, and pieces are set to zero; pieces get smaller each round.
+pub fn shrink(input: &[u8], most: Duration, mut differs: impl FnMut(&[u8]) -> bool) -> Vec<u8> {
+    let started = Instant::now();
     let mut best = input.to_vec();
-    let mut left = effort;
     let mut try_it = |candidate: Vec<u8>, best: &mut Vec<u8>| {
-        if left == 0 || candidate == *best {
+        if candidate == *best || started.elapsed() > most {
             return false;
         }
-        left -= 1;
-        let smaller = differs(&candidate);
-        if smaller {
+        let is_smaller = differs(&candidate);
+        if is_smaller {
             *best = candidate;
         }
-        smaller
+        is_smaller
     };
     let mut piece = input.len().next_power_of_two() / 2;
     while piece > 0 {
@@ -52,20 +46,24 @@ fn with_zeros(bytes: &[u8], at: usize, count: usize) -> Vec<u8> {
 
 #[cfg(test)]
 mod tests {
-    use super::{Effort, shrink};
+    use std::time::Duration;
+
+    use super::shrink;
+
+    const ENOUGH: Duration = Duration::from_secs(60);
 
     #[test]
     fn only_what_makes_the_difference_is_left() {
         let mut input = vec![7; 1_000];
         input[500] = 9;
-        let small = shrink(&input, Effort(10_000), |bytes| bytes.contains(&9));
+        let small = shrink(&input, ENOUGH, |bytes| bytes.contains(&9));
         assert_eq!(small, [9]);
     }
 
     #[test]
     fn what_cannot_go_becomes_zero() {
         let differs = |bytes: &[u8]| bytes.len() == 100 && bytes[50] == 7;
-        let small = shrink(&[7; 100], Effort(10_000), differs);
+        let small = shrink(&[7; 100], ENOUGH, differs);
         assert_eq!(small.iter().filter(|byte| **byte != 0).count(), 1);
     }
 }

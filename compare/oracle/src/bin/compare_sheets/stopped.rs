@@ -71,13 +71,18 @@ pub fn done() {
 }
 
 extern "C" fn say_what_was_tried(_signal: i32) {
-    let mut words = [b'\n'; MOST_WORDS + 1];
-    for (byte, place) in words.iter_mut().zip(&WORDS) {
-        *byte = place.load(Ordering::Relaxed);
+    let mut words = [b' '; MOST_WORDS + 1];
+    let mut length = 0;
+    for (at, place) in WORDS.iter().enumerate() {
+        words[at] = place.load(Ordering::Relaxed);
+        if words[at] != b' ' {
+            length = at + 1;
+        }
     }
+    words[length] = b'\n';
     // Both calls may be made from a handler.
     unsafe {
-        write(STANDARD_ERROR, words.as_ptr().cast(), words.len());
+        write(STANDARD_ERROR, words.as_ptr().cast(), length + 1);
         _exit(1);
     }
 }
