@@ -62,14 +62,9 @@ pub fn large() -> Vec<Input> {
             large::many_types(count),
         ));
     }
+    inputs.extend(chains());
+    inputs.extend(refused_late());
     for (word, bytes) in [
-        ("the longest chain", large::longest_chain(-1)),
-        ("the longest chain, a circle", large::longest_chain(0)),
-        (
-            "a long chain with a circle of one",
-            large::longest_chain(16 * 1_000_000),
-        ),
-        ("a scattered chain", large::scattered_chain()),
         ("many functions", large::many_functions(2)),
         (
             "overlapping tables, trees of 32",
@@ -79,23 +74,41 @@ pub fn large() -> Vec<Input> {
             "overlapping tables, trees of 33",
             large::overlapping(4_000, 33),
         ),
-        (
-            "coclasses with one chain",
-            large::coclasses(100, 50_000, -1),
-        ),
-        (
-            "too long, then a circle",
-            too_long_then(large::typeinfo(5, 0, 0)),
-        ),
-        (
-            "too long, then too deep",
-            too_long_then(large::typeinfo(6, 0, 0)),
-        ),
-        ("too long, then a short typeinfo", too_long_then(Vec::new())),
     ] {
         inputs.push(Input::new(word.into(), bytes));
     }
     inputs
+}
+
+/// Long chains that end or come round.
+fn chains() -> impl Iterator<Item = Input> {
+    [
+        ("the longest chain", large::longest_chain(-1)),
+        ("the longest chain, a circle", large::longest_chain(0)),
+        (
+            "a long chain, late a circle",
+            large::longest_chain(16 * 1_000_000),
+        ),
+        ("a scattered chain", large::scattered_chain()),
+        (
+            "coclasses with one chain",
+            large::coclasses(100, 50_000, -1),
+        ),
+    ]
+    .into_iter()
+    .map(|(word, bytes)| Input::new(word.into(), bytes))
+}
+
+/// Sheets that are too long, and types behind that refuse for another reason.
+fn refused_late() -> impl Iterator<Item = Input> {
+    [
+        ("too long, then a circle", large::typeinfo(5, 0, 0)),
+        ("too long, then too deep", large::typeinfo(6, 0, 0)),
+        ("too long, then a short typeinfo", Vec::new()),
+        ("too long, then an enum", large::typeinfo(0, 0, 0)),
+    ]
+    .into_iter()
+    .map(|(word, last)| Input::new(word.into(), too_long_then(last)))
 }
 
 /// Headers and directories at their edges.

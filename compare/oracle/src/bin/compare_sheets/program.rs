@@ -42,7 +42,7 @@ pub fn difference(program: &Path, input: &[u8]) -> Option<String> {
 
 /// A program that has read enough may close its input, so a failed write is no fault.
 fn write_input(mut stdin: ChildStdin, input: &[u8]) {
-    if input.len() % IN_PIECES != 0 {
+    if !input.len().is_multiple_of(IN_PIECES) {
         let _ = stdin.write_all(input);
         return;
     }

@@ -105,12 +105,15 @@ impl Run {
         println!("{}", self.coverage);
         let seconds = self.started.elapsed().as_secs_f64();
         println!("{} inputs in {seconds:.1} s", self.tried);
-        let missing = self.coverage.missing();
-        if whole && !missing.is_empty() {
+        let missing = match whole {
+            true => self.coverage.missing(),
+            false => Vec::new(),
+        };
+        if !missing.is_empty() {
             println!("did not come up: {}", missing.join(", "));
         }
         println!("differences: {}", self.differences);
-        if self.differences == 0 && !(whole && !missing.is_empty()) {
+        if self.differences == 0 && missing.is_empty() {
             ExitCode::SUCCESS
         } else {
             ExitCode::FAILURE
