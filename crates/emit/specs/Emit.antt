@@ -1,15 +1,15 @@
 -- What an emitter does to its place and to the output. What is to be emitted is an answer: bytes, or the number of a refusal.
 -- Assumes nothing.
 use mathlib.Core.Path.{_≡_}
+use mathlib.Core.Bool.{cond}
 use mathlib.Core.List.{List, _++_}
-use Prim.Native.Nat.{ℕ, suc, _+_, _≤_, min, max}
+use Prim.Native.Nat.{ℕ, suc, _+_, _-_, _≤_, min, max}
+use lib.Dec.{leb}
 use lib.ListN.{length}
 use lib.Seq.{sets}
 use Rattle.records.specs.Answer.{Answer, value, refused}
 use Rattle.records.specs.Record.{limit}
 use Rattle.description.specs.Description.{Bytes}
-use Rattle.emit.specs.declared.Put.{Put}
-use Rattle.emit.specs.declared.Put.the-variants.{At, Refused}
 
 -- x, and y behind it unless x is a refusal
 infixr 20 _▸_
@@ -18,9 +18,23 @@ value a ▸ value b = value (a ++ b)
 value a ▸ refused n = refused n
 refused n ▸ y = refused n
 
+-- where the next byte goes, or the number of the refusal
+pub data Put : Type 0 where
+  At : ℕ → Put
+  Refused : ℕ → Put
+
+-- one more than the most bytes that a sheet has: no place is past it
+abbrev pub past : ℕ
+past = suc limit
+
+-- The number that stands for it in the code, where one number costs less than two: a place, and past all places refusal 0 and so
+-- on.
+unfoldable pub put : ℕ → Put
+put n = cond (leb n past) (At n) (Refused (n - suc past))
+
 -- A place n bytes on, which stops one past the limit: from there no place is within it again, and none overflows.
 unfoldable pub advance : ℕ → ℕ → ℕ
-advance p n = max p (min (p + n) (suc limit))
+advance p n = max p (min (p + n) past)
 
 -- where an emitter of x ends that is called at t; a refusal stays
 abbrev pub moved : Put → Answer Bytes → Put

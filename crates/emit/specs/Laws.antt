@@ -1,20 +1,20 @@
 -- The laws of emitters. Assumes nothing.
 use mathlib.Core.Path.{_≡_, refl, sym, ap, _∙_}
 use mathlib.Core.List.{List, [], _∷_, _++_, append-nil}
-use Prim.Native.Nat.{ℕ, zero, suc, _+_, _-_, _/_, _%_, _≤_, _<_}
+use Prim.Native.Nat.{ℕ, zero, suc, _+_, _-_, _/_, _%_, _≤_, _<_, min, max}
 use native.Mathlib.Nat.{add-zero, add-suc, suc-add}
 use native.Mathlib.Omega.{arith}
+use lib.Dec.{leb}
+use borrow.Author.Tests.{le-leb, lt-leb, leb-true, leb-false}
 use lib.ListN.{length, getD, set, drop, take, length-append, length-take, drop-of-length-le}
 use native.Mathlib.Numerals.{add-one}
 use lib.Seq.{drop-cons, sets, length-sets, sets-eq, set-out, set-comm, slice, slice-cons}
-use Rattle.util.specs.Read.{read, orZero, read-none}
+use Rattle.util.specs.Read.{read, orZero, cond-elim, read-none}
 use Rattle.records.specs.Answer.{Answer, value, refused, map}
 use Rattle.records.specs.Record.{limit}
 use Rattle.description.specs.Description.{Bytes}
 use Rattle.description.specs.Format.{leBytes}
-use Rattle.emit.specs.declared.Put.{Put}
-use Rattle.emit.specs.declared.Put.the-variants.{At, Refused}
-use Rattle.emit.specs.Emit.{_▸_, advance, moved, Laid, Emitted}
+use Rattle.emit.specs.Emit.{_▸_, Put, At, Refused, past, put, advance, moved, Laid, Emitted}
 
 -- ---- runs of stores
 
@@ -97,27 +97,53 @@ known e h = rw e at h
 
 -- ---- emitters that look at the place
 
+pub put-at : (n : ℕ) → n ≤ past → put n ≡ At n
+unfolding put
+put-at n h = rw (le-leb n past h)
+
+pub put-refused : (n : ℕ) → past < n → put n ≡ Refused (n - suc past)
+unfolding put
+put-refused n h = rw (lt-leb n past h)
+
+-- what holds of a place and of a refusal holds of the number
+put-elim : (P : Put → Type 0) (n : ℕ) → (n ≤ past → P (At n)) → (past < n → P (Refused (n - suc past))) → P (put n)
+unfolding put
+put-elim P n f g = cond-elim P (leb n past) (At n) (Refused (n - suc past)) (λ h. f (leb-true n past h)) (λ h. g (leb-false n past h))
+
+put-moved : (p : ℕ) (bs : Bytes) → put (advance p (length bs)) ≡ moved (put p) (value bs)
+unfolding advance
+put-moved p bs =
+    put-elim (λ t. put (max p (min (p + length bs) past)) ≡ moved t (value bs)) p
+    (λ h. put-at (max p (min (p + length bs) past)) (omega arith))
+    (λ h. let e : max p (min (p + length bs) past) ≡ p = omega arith in rw e (put-refused p h))
+
 -- the bytes are stored at p
-pub stored : {t : Put} {o o′ bs : List ℕ} {p n q : ℕ} → t ≡ At p → q ≡ advance p n → length bs ≡ n → o′ ≡ sets o p bs
-    → Emitted (value bs) t o (At q) o′
-stored {t} {o} {o′} {bs} {p} {n} {q} e f g h =
-    rw e (record { moves = ap At (f ∙ ap (advance p) (sym g)); lays = λ k l. h; keeps = ap length h ∙ length-sets o p bs })
+pub stored : {o o′ bs : List ℕ} (p : ℕ) {n q : ℕ} → q ≡ advance p n → length bs ≡ n → o′ ≡ sets o p bs → Emitted (value bs) (put p) o (put q) o′
+stored {o} {o′} {bs} p {n} {q} f g h =
+    record {
+      moves = ap put (f ∙ ap (advance p) (sym g)) ∙ put-moved p bs;
+      lays = put-elim (λ t. Laid t (value bs) o o′) p (λ _ k l. h) (λ _. tt);
+      keeps = ap length h ∙ length-sets o p bs;
+    }
 
 -- there is no room for them
-pub unstored : {t : Put} {o bs : List ℕ} {p n q : ℕ} → t ≡ At p → q ≡ advance p n → length bs ≡ n → length o < p + n
-    → Emitted (value bs) t o (At q) o
-unstored {t} {o} {bs} {p} {n} {q} e f g h =
-    rw e (record { moves = ap At (f ∙ ap (advance p) (sym g)); lays = λ k l. absurd (omega (arith, g)); keeps = refl })
-
-pub refused-already : {x : Answer Bytes} {t : Put} {o : List ℕ} {m : ℕ} → t ≡ Refused m → Emitted x t o (Refused m) o
-refused-already e = rw e (record { moves = refl; lays = tt; keeps = refl })
+pub unstored : {o bs : List ℕ} (p : ℕ) {n q : ℕ} → q ≡ advance p n → length bs ≡ n → length o < p + n → Emitted (value bs) (put p) o (put q) o
+unstored {o} {bs} p {n} {q} f g h =
+    record {
+      moves = ap put (f ∙ ap (advance p) (sym g)) ∙ put-moved p bs;
+      lays = put-elim (λ t. Laid t (value bs) o o) p (λ _ k l. absurd (omega (arith, g))) (λ _. tt);
+      keeps = refl;
+    }
 
 -- nothing more is emitted behind a refusal
-pub refused-stays : {x : Answer Bytes} {t : Put} {o : List ℕ} {m : ℕ} → t ≡ Refused m → Emitted x t o t o
-refused-stays e = rw e (record { moves = refl; lays = tt; keeps = refl })
+pub refused-stays : {x : Answer Bytes} {o : List ℕ} {p : ℕ} → past < p → Emitted x (put p) o (put p) o
+refused-stays {x} {o} {p} h = rw (put-refused p h) (record { moves = refl; lays = tt; keeps = refl })
 
-pub refused-now : {t : Put} {o : List ℕ} {p n : ℕ} → t ≡ At p → Emitted (refused n) t o (Refused n) o
-refused-now e = rw e (record { moves = refl; lays = tt; keeps = refl })
+pub refused-now : {o : List ℕ} {p n q : ℕ} → p ≤ past → q ≡ suc past + n → Emitted (refused n) (put p) o (put q) o
+refused-now {o} {p} {n} {q} h e =
+    let k : past < q = omega (arith, e) in
+    let m : q - suc past ≡ n = omega (arith, e) in
+    rw (put-at p h, put-refused q k, m) (record { moves = refl; lays = tt; keeps = refl })
 
 -- ---- a loop: what the rest of it, emitted from here, makes of the whole
 

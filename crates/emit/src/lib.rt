@@ -2,7 +2,7 @@
 //
 // The place is sticky. A refusal passes through, so that a row of emitters is a straight line; and
 // where the output has no room an emitter only counts, so that one traversal both measures (over an
-// empty output) and writes.
+// empty output) and writes. A place and a refusal are one number, since an enum is slow to hand on.
 ghost use mathlib.Core.Path.{_≡_};
 ghost use mathlib.Core.List.{_∷_, []};
 ghost use Prim.Native.Nat.{_+_, _≤_};
@@ -12,16 +12,10 @@ ghost use lib.Seq.{sets};
 ghost use Rattle.util.specs.Read.{read, orZero};
 ghost use Rattle.records.specs.Answer.{value, refused};
 ghost use Rattle.description.specs.Format.{leBytes};
-ghost use Rattle.emit.specs.Emit.{Emitted, advance};
+ghost use Rattle.emit.specs.Emit.{Emitted, put, advance};
 
-// A place is never past this, one more than the most bytes that a sheet has.
-const PAST: usize = 16_777_217;
-
-// Where the next byte goes, or the number of the refusal.
-pub enum Put {
-    At(usize),
-    Refused(u8),
-}
+// No place is past this, one more than the most bytes that a sheet has. A number past it is a refusal: 0 is the next, and so on.
+pub const PAST: usize = 16_777_217;
 
 // The place `count` bytes on.
 fn further(at: usize, count: usize) -> usize
@@ -50,28 +44,24 @@ fn has_room(room: usize, at: usize, count: usize) -> bool
 }
 
 // The refusal, unless there is one already.
-pub fn put_refusal(to: Put, number: u8) -> Put
-    ensures { λ r. ⌜ ((o : _) → Emitted (refused number) to o r o) ⌝ }
+pub fn put_refusal(to: usize, number: u8) -> usize
+    ensures { λ r. ⌜ ((o : _) → Emitted (refused number) (put to) o (put r) o) ⌝ }
 {
-    match to {
-        Put::At(_) => Put::Refused(number),
-        Put::Refused(n) => Put::Refused(n),
+    if to <= PAST {
+        PAST + 1 + number as usize
+    } else {
+        to
     }
 }
 
-pub fn put_u8(out: &mut [u8], to: Put, b: u8) -> Put
-    ensures { λ r. ⌜ Emitted (value (b ∷ [])) to (now (out .entry)) r (now (out .exit)) ⌝ }
+pub fn put_u8(out: &mut [u8], to: usize, b: u8) -> usize
+    ensures { λ r. ⌜ Emitted (value (b ∷ [])) (put to) (now (out .entry)) (put r) (now (out .exit)) ⌝ }
 {
-    match to {
-        Put::At(at) => {
-            if at < out.len() {
-                out[at] = b;
-                Put::At(further(at, 1))
-            } else {
-                Put::At(further(at, 1))
-            }
-        }
-        Put::Refused(n) => Put::Refused(n),
+    if to < out.len() {
+        out[to] = b;
+        further(to, 1)
+    } else {
+        further(to, 1)
     }
 }
 
@@ -92,30 +82,25 @@ fn store_le(out: &mut [u8], at: usize, v: u64, width: usize)
 }
 
 // The lowest `width` bytes of `v`, the lowest first.
-pub fn put_le(out: &mut [u8], to: Put, v: u64, width: usize) -> Put
-    ensures { λ r. ⌜ Emitted (value (leBytes width v)) to (now (out .entry)) r (now (out .exit)) ⌝ }
+pub fn put_le(out: &mut [u8], to: usize, v: u64, width: usize) -> usize
+    ensures { λ r. ⌜ Emitted (value (leBytes width v)) (put to) (now (out .entry)) (put r) (now (out .exit)) ⌝ }
 {
-    match to {
-        Put::At(at) => {
-            if has_room(out.len(), at, width) {
-                store_le(out, at, v, width);
-                Put::At(further(at, width))
-            } else {
-                Put::At(further(at, width))
-            }
-        }
-        Put::Refused(n) => Put::Refused(n),
+    if has_room(out.len(), to, width) {
+        store_le(out, to, v, width);
+        further(to, width)
+    } else {
+        further(to, width)
     }
 }
 
-pub fn put_u16(out: &mut [u8], to: Put, v: u16) -> Put
-    ensures { λ r. ⌜ Emitted (value (leBytes 2 v)) to (now (out .entry)) r (now (out .exit)) ⌝ }
+pub fn put_u16(out: &mut [u8], to: usize, v: u16) -> usize
+    ensures { λ r. ⌜ Emitted (value (leBytes 2 v)) (put to) (now (out .entry)) (put r) (now (out .exit)) ⌝ }
 {
     put_le(out, to, v as u64, 2)
 }
 
-pub fn put_u32(out: &mut [u8], to: Put, v: u32) -> Put
-    ensures { λ r. ⌜ Emitted (value (leBytes 4 v)) to (now (out .entry)) r (now (out .exit)) ⌝ }
+pub fn put_u32(out: &mut [u8], to: usize, v: u32) -> usize
+    ensures { λ r. ⌜ Emitted (value (leBytes 4 v)) (put to) (now (out .entry)) (put r) (now (out .exit)) ⌝ }
 {
     put_le(out, to, v as u64, 4)
 }
@@ -133,19 +118,14 @@ fn store(bytes: &[u8], out: &mut [u8], at: usize)
     }
 }
 
-pub fn put_bytes(bytes: &[u8], out: &mut [u8], to: Put) -> Put
-    ensures { λ r. ⌜ Emitted (value (now (bytes .entry))) to (now (out .entry)) r (now (out .exit)) ⌝ }
+pub fn put_bytes(bytes: &[u8], out: &mut [u8], to: usize) -> usize
+    ensures { λ r. ⌜ Emitted (value (now (bytes .entry))) (put to) (now (out .entry)) (put r) (now (out .exit)) ⌝ }
 {
-    match to {
-        Put::At(at) => {
-            if has_room(out.len(), at, bytes.len()) {
-                store(bytes, out, at);
-                Put::At(further(at, bytes.len()))
-            } else {
-                Put::At(further(at, bytes.len()))
-            }
-        }
-        Put::Refused(n) => Put::Refused(n),
+    if has_room(out.len(), to, bytes.len()) {
+        store(bytes, out, to);
+        further(to, bytes.len())
+    } else {
+        further(to, bytes.len())
     }
 }
 
@@ -172,14 +152,14 @@ pub fn word_at(s: &[u8], at: usize, offset: usize) -> u32
     }
 }
 
-pub fn copy_u16(s: &[u8], at: usize, offset: usize, out: &mut [u8], to: Put) -> Put
-    ensures { λ r. ⌜ Emitted (value (leBytes 2 (orZero (read 2 (now (s .entry)) (at + offset))))) to (now (out .entry)) r (now (out .exit)) ⌝ }
+pub fn copy_u16(s: &[u8], at: usize, offset: usize, out: &mut [u8], to: usize) -> usize
+    ensures { λ r. ⌜ Emitted (value (leBytes 2 (orZero (read 2 (now (s .entry)) (at + offset))))) (put to) (now (out .entry)) (put r) (now (out .exit)) ⌝ }
 {
     put_u16(out, to, half_at(s, at, offset))
 }
 
-pub fn copy_u32(s: &[u8], at: usize, offset: usize, out: &mut [u8], to: Put) -> Put
-    ensures { λ r. ⌜ Emitted (value (leBytes 4 (orZero (read 4 (now (s .entry)) (at + offset))))) to (now (out .entry)) r (now (out .exit)) ⌝ }
+pub fn copy_u32(s: &[u8], at: usize, offset: usize, out: &mut [u8], to: usize) -> usize
+    ensures { λ r. ⌜ Emitted (value (leBytes 4 (orZero (read 4 (now (s .entry)) (at + offset))))) (put to) (now (out .entry)) (put r) (now (out .exit)) ⌝ }
 {
     put_u32(out, to, word_at(s, at, offset))
 }

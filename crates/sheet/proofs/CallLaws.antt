@@ -2,7 +2,7 @@
 use mathlib.Core.Path.{_≡_, refl, sym, ap, _∙_}
 use mathlib.Core.Bool.{Bool, true, cond, _&&_}
 use mathlib.Core.List.{List, [], _∷_, _++_, append-nil}
-use Prim.Native.Nat.{ℕ, suc, _+_, _≤_, _<_, min, max}
+use Prim.Native.Nat.{ℕ, suc, _+_, _-_, _≤_, _<_, min, max}
 use native.Mathlib.Nat.{zero-add}
 use native.Mathlib.Omega.{arith}
 use lib.ListN.{length, take, drop}
@@ -13,14 +13,15 @@ use Rattle.records.specs.Record.{limit}
 use Rattle.typelib.specs.declared.TypeLib.{TypeLib}
 use Rattle.typelib.specs.declared.Parsed.{Parsed}
 use Rattle.typelib.specs.Header.{parseOf, parsed}
-use Rattle.description.specs.Description.{Bytes, Library}
+use Rattle.description.specs.Description.{Bytes, TypeInfo, Library}
 use Rattle.description.specs.Sheet.{edition-one, sheetBytes}
 use Rattle.describe.specs.Describe.{headerOf, typesOf, describeAs, describe}
 use Rattle.describe.specs.Answers.{answers-refused}
-use Rattle.describe.specs.Refusals.{parse-sound}
+use Rattle.describe.specs.Refusals.{Sound, parse-sound, types-listed, listed-byte}
 use Rattle.describe.specs.Call.{within, sheetOf, written, Call}
-use Rattle.emit.specs.declared.Put.{Put}
-use Rattle.emit.specs.declared.Put.the-variants.{At, Refused}
+use Rattle.emit.specs.Emit.{Put}
+use Rattle.emit.specs.Emit.{At, Refused, past, put}
+use Rattle.emit.specs.Laws.{put-at, put-refused}
 use Rattle.emit.specs.Emit.{advance, moved, Emitted}
 use Rattle.sheet.specs.Contents.{sheetEmitted, Answered}
 
@@ -34,46 +35,70 @@ size-of : (bs : List ℕ) (n : ℕ) → At n ≡ At (advance 0 (length bs)) → 
 unfolding advance
 size-of bs n e = let f : n ≡ max 0 (min (0 + length bs) (suc limit)) = cc in omega arith
 
-module _ {r : Put} where
-  pub whole-refused : (x : Answer Bytes) {o : List ℕ} {n : ℕ} → r ≡ moved (At 0) x → r ≡ Refused n → Answered x o (refused n) o
+-- `size` is what measuring x gave
+module _ (size : ℕ) where
+  first : (x : Answer Bytes) → put size ≡ moved (put 0) x → put size ≡ moved (At 0) x
+  first x e = e ∙ ap (λ (t : Put). moved t x) (put-at 0 (omega arith))
+
+  -- a refusal, whose number is a byte
+  pub refusal-byte : (x : Answer Bytes) → ((n : ℕ) → x ≡ refused n → n < 256) → put size ≡ moved (put 0) x → past < size → size - suc past < 256
+  refusal-byte (value bs) small m h = absurd (let q : At (advance 0 (length bs)) ≡ Refused (size - suc past) = sym (first (value bs) m) ∙ put-refused size h in let z : _≡_ {A = ℕ} 0 1 = cc in omega arith)
+  refusal-byte (refused k) small m h =
+      let z : Refused (size - suc past) ≡ Refused k = sym (put-refused size h) ∙ first (refused k) m in
+      let q : size - suc past ≡ k = cc in
+      rw q (small k refl)
+
+  pub whole-refused : (x : Answer Bytes) {o : List ℕ} {n : ℕ} → put size ≡ moved (put 0) x → past < size → n ≡ size - suc past → Answered x o (refused n) o
   unfolding written
-  whole-refused (value bs) m e = absurd (let z : _≡_ {A = ℕ} 0 1 = cc in omega arith)
-  whole-refused (refused k) {o} {n} m e =
-      let q : n ≡ k = let z : Refused n ≡ Refused k = sym e ∙ m in cc in
-      record { replies = ap refused q; leaves = refl }
+  whole-refused (value bs) {o} {n} m h e = absurd (let q : At (advance 0 (length bs)) ≡ Refused (size - suc past) = sym (first (value bs) m) ∙ put-refused size h in let z : _≡_ {A = ℕ} 0 1 = cc in omega arith)
+  whole-refused (refused k) {o} {n} m h e =
+      let z : Refused (size - suc past) ≡ Refused k = sym (put-refused size h) ∙ first (refused k) m in
+      let q : size - suc past ≡ k = cc in
+      record { replies = ap refused (e ∙ q); leaves = refl }
 
-  pub whole-long : (x : Answer Bytes) {o : List ℕ} {n : ℕ} → r ≡ moved (At 0) x → r ≡ At n → limit < n → Answered x o (refused 12) o
+  pub whole-long : (x : Answer Bytes) {o : List ℕ} → put size ≡ moved (put 0) x → size ≤ past → limit < size → Answered x o (refused 12) o
   unfolding within written
-  whole-long (value bs) {o} {n} m e h =
-      let k : limit < length bs = omega (arith, size-of bs n (sym e ∙ m)) in
+  whole-long (value bs) {o} m l h =
+      let k : limit < length bs = omega (arith, size-of bs size (sym (put-at size l) ∙ first (value bs) m)) in
       record { replies = rw (lt-leb (length bs) limit k); leaves = rw (lt-leb (length bs) limit k) }
-  whole-long (refused j) m e h = absurd (let z : _≡_ {A = ℕ} 0 1 = cc in omega arith)
+  whole-long (refused j) m l h = absurd (let q : At size ≡ Refused j = sym (put-at size l) ∙ first (refused j) m in let z : _≡_ {A = ℕ} 0 1 = cc in omega arith)
 
-  pub whole-short : (x : Answer Bytes) {o : List ℕ} {n : ℕ} → r ≡ moved (At 0) x → r ≡ At n → n ≤ limit → length o < n → Answered x o (refused 12) o
+  pub whole-short : (x : Answer Bytes) {o : List ℕ} → put size ≡ moved (put 0) x → size ≤ limit → length o < size → Answered x o (refused 12) o
   unfolding within written
-  whole-short (value bs) {o} {n} m e h room =
-      let k : length bs ≤ limit = omega (arith, size-of bs n (sym e ∙ m)) in
-      let j : length o < length bs = omega (arith, size-of bs n (sym e ∙ m)) in
+  whole-short (value bs) {o} m h room =
+      let e : size ≡ min (length bs) (suc limit) = size-of bs size (sym (put-at size (omega arith)) ∙ first (value bs) m) in
+      let k : length bs ≤ limit = omega (arith, e) in
+      let j : length o < length bs = omega (arith, e) in
       record {
         replies = rw (le-leb (length bs) limit k, lt-leb (length bs) (length o) j);
         leaves = rw (le-leb (length bs) limit k, lt-leb (length bs) (length o) j);
       }
-  whole-short (refused j) m e h room = absurd (let z : _≡_ {A = ℕ} 0 1 = cc in omega arith)
+  whole-short (refused j) m h room = absurd (let q : At size ≡ Refused j = sym (put-at size (omega arith)) ∙ first (refused j) m in let z : _≡_ {A = ℕ} 0 1 = cc in omega arith)
 
-  pub whole-done : (x : Answer Bytes) {o e′ : List ℕ} {n : ℕ} {r′ : Put} → r ≡ moved (At 0) x → r ≡ At n → n ≤ limit → n ≤ length o
-      → Emitted x (At 0) (take n o) r′ e′ → Answered x o (value n) (e′ ++ drop n o)
+  pub whole-done : (x : Answer Bytes) {o e′ : List ℕ} {r′ : Put} → put size ≡ moved (put 0) x → size ≤ limit → size ≤ length o
+      → Emitted x (put 0) (take size o) r′ e′ → Answered x o (value size) (e′ ++ drop size o)
   unfolding within written
-  whole-done (value bs) {o} {e′} {n} {r′} m e h room w =
-      let q : n ≡ length bs = omega (arith, size-of bs n (sym e ∙ m)) in
+  whole-done (value bs) {o} {e′} {r′} m h room w₀ =
+      let w : Emitted (value bs) (At 0) (take size o) r′ e′ = rw (put-at 0 (omega arith)) at w₀ in
+      let q : size ≡ length bs = omega (arith, size-of bs size (sym (put-at size (omega arith)) ∙ first (value bs) m)) in
       let k : length bs ≤ limit = omega arith in
       let j : length bs ≤ length o = omega arith in
-      let t : length (take n o) ≡ n = length-take-le n o room in
-      let f : e′ ≡ bs = w .lays (omega (arith, k)) (omega (arith, q, t)) ∙ filled bs (take n o) (sym q ∙ sym t) in
+      let t : length (take size o) ≡ size = length-take-le size o room in
+      let f : e′ ≡ bs = w .lays (omega (arith, k)) (omega (arith, q, t)) ∙ filled bs (take size o) (sym q ∙ sym t) in
       record {
         replies = rw (le-leb (length bs) limit k, le-leb (length bs) (length o) j) (ap value q);
         leaves = rw (le-leb (length bs) limit k, le-leb (length bs) (length o) j) (rw (f, q));
       }
-  whole-done (refused j) m e h room w = absurd (let z : _≡_ {A = ℕ} 0 1 = cc in omega arith)
+  whole-done (refused j) m h room w = absurd (let q : At size ≡ Refused j = sym (put-at size (omega arith)) ∙ first (refused j) m in let z : _≡_ {A = ℕ} 0 1 = cc in omega arith)
+
+-- the refusals of a sheet are bytes
+pub emitted-byte : (s : List ℕ) (lib : TypeLib) (n : ℕ) → sheetEmitted s lib ≡ refused n → n < 256
+unfolding sheetEmitted
+emitted-byte s lib n = by (typesOf s lib) (types-listed s lib)
+  where
+    by : (a : Answer (List TypeInfo)) → Sound a → map (sheetBytes edition-one) (map (λ types. record { header = headerOf s lib; types = types }) a) ≡ refused n → n < 256
+    by (value ts) l e = absurd (let z : _≡_ {A = ℕ} 0 1 = cc in omega arith)
+    by (refused m) l e = let q : m ≡ n = cc in rw (← q) (listed-byte m (answers-refused l refl))
 
 -- ---- parsing first
 

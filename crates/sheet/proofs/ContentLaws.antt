@@ -4,9 +4,10 @@ use mathlib.Core.List.{List, [], _∷_, _++_, append-assoc}
 use mathlib.Core.List as lists
 use Prim.Native.Nat.{ℕ, zero, suc, _+_, _-_, _*_, _≤_, _<_, min, max}
 use native.Mathlib.Omega.{arith}
+use lib.Dec.{leb}
 use lib.ListN.{length, length-append}
 use lib.Seq.{sets}
-use Rattle.util.specs.Read.{read, orZero}
+use Rattle.util.specs.Read.{read, orZero, cond-elim}
 use Rattle.records.specs.Answer.{Answer, value, refused, map, bind}
 use Rattle.records.specs.Record.{limit}
 use Rattle.typelib.specs.declared.TypeLib.{TypeLib}
@@ -19,10 +20,10 @@ use Rattle.describe.specs.References.{guidOf}
 use Rattle.describe.specs.Members.{nameOf}
 use Rattle.describe.specs.Types.{typeOf, typesFrom}
 use Rattle.describe.specs.Describe.{headerOf}
-use Rattle.emit.specs.declared.Put.{Put}
-use Rattle.emit.specs.declared.Put.the-variants.{At, Refused}
+use Rattle.emit.specs.Emit.{Put}
+use Rattle.emit.specs.Emit.{At, Refused, past, put}
 use Rattle.emit.specs.Emit.{_▸_, advance, moved, Emitted}
-use Rattle.emit.specs.Laws.{sets-append, sets-comm, advance-within, moved-join, skip, known}
+use Rattle.emit.specs.Laws.{put-at, put-refused, sets-append, sets-comm, advance-within, moved-join, skip, known}
 use Rattle.sheet_members.specs.Lists.{layAll, all-laid, Sized, sized, unsized, all-sized}
 use Rattle.sheet.specs.Contents.{sheetEmitted, lenOf, lensOf, Patched, LaidTwo, Twofold}
 
@@ -35,20 +36,27 @@ header-is s lib {g} {n} e f = rw (e, f)
 
 -- ---- a length
 
-pub unpatched : {from end : Put} {at : ℕ} {o : List ℕ} → ((p q : ℕ) → from ≡ At p → end ≡ At q → p ≤ q → ⊥) → Patched from end at o o
-unpatched h = record { puts = λ p q e g k m n. absurd (h p q e g k); keeps = refl }
+at-is : {p q : ℕ} → At p ≡ At q → p ≡ q
+at-is e = cc
 
-pub at-is : {t : Put} {p q : ℕ} → t ≡ At p → t ≡ At q → p ≡ q
-at-is e f = cc
+-- a number that stands for a place is that place
+pub place-is : (n : ℕ) {p : ℕ} → put n ≡ At p → n ≡ p
+unfolding put
+place-is n {p} = cond-elim (λ (t : Put). t ≡ At p → n ≡ p) (leb n past) (At n) (Refused (n - suc past)) (λ _ e. at-is e) (λ _ e. absurd (let z : _≡_ {A = ℕ} 0 1 = cc in omega arith))
 
-pub never : {t : Put} {p m : ℕ} → t ≡ At p → t ≡ Refused m → ⊥
-never e f = let z : _≡_ {A = ℕ} 0 1 = cc in omega arith
+pub unpatched : (from end : ℕ) {at : ℕ} {o : List ℕ} → ((p q : ℕ) → put from ≡ At p → put end ≡ At q → p ≤ q → ⊥) → Patched (put from) (put end) at o o
+unpatched from end h = record { puts = λ p q e g k m n. absurd (h p q e g k); keeps = refl }
 
-pub patched : {from end r : Put} {at p q : ℕ} {o o′ : List ℕ} → from ≡ At p → end ≡ At q → Emitted (value (leBytes 4 (q - p))) (At at) o r o′ → Patched from end at o o′
-patched {from} {end} {r} {at} {p} {q} {o} {o′} e g w =
+pub past-never : (n : ℕ) {p : ℕ} → past < n → put n ≡ At p → ⊥
+past-never n h e = let q : Refused (n - suc past) ≡ At _ = sym (put-refused n h) ∙ e in let z : _≡_ {A = ℕ} 0 1 = cc in omega arith
+
+pub patched : (from end at : ℕ) {r : Put} {o o′ : List ℕ} → Emitted (value (leBytes 4 (end - from))) (put at) o r o′ → Patched (put from) (put end) at o o′
+patched from end at {r} {o} {o′} w =
     record {
-      puts = λ p′ q′ e′ g′ k m n.
-          rw (at-is e′ e, at-is g′ g) (w .lays (omega (arith, m, length-leBytes 4 (q - p))) (omega (arith, n, length-leBytes 4 (q - p))));
+      puts = λ p q e g k m n.
+          let w′ : Emitted (value (leBytes 4 (end - from))) (At at) o r o′ = rw (put-at at (omega (arith, m))) at w in
+          rw (← place-is from e, ← place-is end g)
+          (w′ .lays (omega (arith, m, length-leBytes 4 (end - from))) (omega (arith, n, length-leBytes 4 (end - from))));
       keeps = w .keeps;
     }
 
@@ -146,8 +154,8 @@ module _ (s : List ℕ) (lib : TypeLib) where
   unfolding lensOf layAll typesFrom
   types-none n i {t₀} {t} {o₀} {o} h left = let e : n - i ≡ 0 = omega arith in (rw e at left) .finish t o two-none
 
-  pub types-refused : (n i : ℕ) {t₀ t : Put} {o₀ o : List ℕ} {m : ℕ} → t ≡ Refused m → LeftFrom n t₀ o₀ i t o → Twofold (lens n 0) (bodies n 0) 8 t₀ o₀ t o
-  types-refused n i {t₀} {t} {o₀} {o} {m} e left = left .finish t o (two-refused (lens (n - i) i) (bodies (n - i) i) e)
+  pub types-refused : (n i : ℕ) {t₀ : Put} {t : ℕ} {o₀ o : List ℕ} → past < t → LeftFrom n t₀ o₀ i (put t) o → Twofold (lens n 0) (bodies n 0) 8 t₀ o₀ (put t) o
+  types-refused n i {t₀} {t} {o₀} {o} h left = left .finish (put t) o (two-refused (lens (n - i) i) (bodies (n - i) i) (put-refused t h))
 
 -- ---- the whole
 
@@ -222,20 +230,22 @@ sheet-laid h n y (sized {ys = ys} e) =
 sheet-laid h n y unsized = refl
 
 pub sheet-whole : (s : List ℕ) (lib : TypeLib) {t u r : Put} {o o₁ o₂ o₃ o₄ : List ℕ} → lib .count ≤ 65535
-    → Emitted (value (leBytes 4 (lib .count))) (At 0) o t o₁
-    → Emitted (value (encode header (headerOf s lib))) (At (8 + 4 * lib .count)) o₁ u o₂ → Patched (At (8 + 4 * lib .count)) u 4 o₂ o₃
+    → Emitted (value (leBytes 4 (lib .count))) (put 0) o t o₁
+    → Emitted (value (encode header (headerOf s lib))) (put (8 + 4 * lib .count)) o₁ u o₂ → Patched (put (8 + 4 * lib .count)) u 4 o₂ o₃
     → Twofold (lensOf (typeInfo edition-one (lib .count)) (typesFrom s lib (lib .count) 0)) (layAll (typeInfo edition-one (lib .count)) (typesFrom s lib (lib .count) 0)) 8 u o₃ r o₄
-    → Emitted (sheetEmitted s lib) (At 0) o r o₄
+    → Emitted (sheetEmitted s lib) (put 0) o r o₄
 unfolding sheetEmitted
 sheet-whole s lib {t} {u} {r} {o} {o₁} {o₂} {o₃} {o₄} few a h p w =
     let n : ℕ = lib .count in
+    let first : put 0 ≡ At 0 = put-at 0 (omega arith) in
+    let start : put (8 + 4 * n) ≡ At (8 + 4 * n) = put-at (8 + 4 * n) (omega (arith, few)) in
     let F : Format TypeInfo = typeInfo edition-one n in
     let xs : List (Answer TypeInfo) = typesFrom s lib n 0 in
     let hb : Bytes = encode header (headerOf s lib) in
     let q : length xs ≡ n = types-length s lib n 0 in
     let b : Both (suc n) (lenOf (value hb) ▸ lensOf F xs) (value hb ▸ layAll F xs) = both-more (value hb) (rw q at (both-all F xs)) in
     let z : Sized F n (all xs) = rw q at (all-sized F xs) in
-    known
+    rw first (known
     (ap₂ (λ (x y : Answer Bytes). value (leBytes 4 n) ▸ ((value (leBytes 4 (length hb)) ▸ x) ▸ (value hb ▸ y))) (lens-laid F xs) (sym (all-laid F xs))
     ∙ sheet-laid (headerOf s lib) n (all xs) z)
-    (whole (omega (arith, few)) b a (two-more h p w))
+    (whole (omega (arith, few)) b (rw first at a) (two-more (rw start at h) (rw start at p) w)))

@@ -27,7 +27,7 @@ use Rattle.describe.specs.References.{guidOf, referenceOf}
 use Rattle.describe.specs.Trees.{treeOf}
 use Rattle.describe.specs.Members.{nameOf, functionsOf, variablesOf}
 use Rattle.describe.specs.Types.{implTypeAt, implTypesAt, baseOf, kindAt, typeWith, typeAt, typeOf}
-use Rattle.emit.specs.declared.Put.{Put}
+use Rattle.emit.specs.Emit.{Put}
 use Rattle.emit.specs.Emit.{_▸_, Emitted}
 use Rattle.sheet.specs.Types.{shapeEmitted, baseEmitted, chainEmitted, linksBytes, headBytes, namesBytes}
 

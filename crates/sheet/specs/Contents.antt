@@ -13,8 +13,8 @@ use Rattle.description.specs.Description.{Bytes}
 use Rattle.description.specs.Sheet.{edition-one, sheetBytes}
 use Rattle.describe.specs.Call.{within, written}
 use Rattle.describe.specs.Describe.{headerOf, typesOf}
-use Rattle.emit.specs.declared.Put.{Put}
-use Rattle.emit.specs.declared.Put.the-variants.{At, Refused}
+use Rattle.emit.specs.Emit.{Put}
+use Rattle.emit.specs.Emit.{At, Refused}
 use Rattle.emit.specs.Emit.{_▸_, moved}
 
 -- the whole sheet of a library

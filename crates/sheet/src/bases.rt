@@ -1,5 +1,4 @@
 // What a type is based on: the interface under it, the interfaces that it implements, or the type that it names.
-use emit::Put;
 use records::refrecord::RefRecord;
 use records::typeinfo::TypeInfoEntry;
 use sheet_trees::references;
@@ -15,7 +14,7 @@ ghost use Rattle.typelib.specs.Chain.{walkOf, toldWalk};
 ghost use Rattle.description.specs.Format.{encode, list};
 ghost use Rattle.description.specs.Sheet.{edition-one, u32, implType};
 ghost use Rattle.describe.specs.Types.{implTypeAt, implTypesAt};
-ghost use Rattle.emit.specs.Emit.{Emitted};
+ghost use Rattle.emit.specs.Emit.{Emitted, put};
 ghost use Rattle.sheet.specs.Types.{baseEmitted, chainEmitted, linksBytes};
 
 // The base of a type of that kind.
@@ -25,9 +24,9 @@ pub(crate) fn put_base(
     ti: TypeInfoEntry,
     kind: u32,
     out: &mut [u8],
-    to: Put,
-) -> Put
-    ensures { λ r. ⌜ Emitted (baseEmitted (now (s .entry)) lib ti kind) to (now (out .entry)) r (now (out .exit)) ⌝ }
+    to: usize,
+) -> usize
+    ensures { λ r. ⌜ Emitted (baseEmitted (now (s .entry)) lib ti kind) (put to) (now (out .entry)) (put r) (now (out .exit)) ⌝ }
 {
     match kind {
         3 => references::put_reference(s, lib, emit::word_at(s, ti.at, 0x54), out, to),
@@ -39,8 +38,8 @@ pub(crate) fn put_base(
 }
 
 // The chain of implemented types: how many the full walk takes, and each; 10 where it comes round.
-fn put_chain(s: &[u8], lib: TypeLib, ti: TypeInfoEntry, out: &mut [u8], to: Put) -> Put
-    ensures { λ r. ⌜ Emitted (map (encode (list u32 (implType edition-one (lib .count)))) (implTypesAt (now (s .entry)) lib ti)) to (now (out .entry)) r (now (out .exit)) ⌝ }
+fn put_chain(s: &[u8], lib: TypeLib, ti: TypeInfoEntry, out: &mut [u8], to: usize) -> usize
+    ensures { λ r. ⌜ Emitted (map (encode (list u32 (implType edition-one (lib .count)))) (implTypesAt (now (s .entry)) lib ti)) (put to) (now (out .entry)) (put r) (now (out .exit)) ⌝ }
 {
     match lib.impl_types(s, ti) {
         ImplTypesAnswer::Value(cursor) => put_walked(s, lib, cursor, cursor.walk(s), out, to),
@@ -54,10 +53,10 @@ fn put_walked(
     cursor: ImplTypeCursor,
     walk: WalkAnswer,
     out: &mut [u8],
-    to: Put,
-) -> Put
+    to: usize,
+) -> usize
     requires { ⌜ toldWalk walk ≡ walkOf (now s) cursor ⌝ }
-    ensures { λ r. ⌜ Emitted (chainEmitted (now (s .entry)) lib cursor) to (now (out .entry)) r (now (out .exit)) ⌝ }
+    ensures { λ r. ⌜ Emitted (chainEmitted (now (s .entry)) lib cursor) (put to) (now (out .entry)) (put r) (now (out .exit)) ⌝ }
 {
     match walk {
         WalkAnswer::Took(count) => {
@@ -75,10 +74,10 @@ fn put_links(
     cursor: ImplTypeCursor,
     count: usize,
     out: &mut [u8],
-    to: Put,
-) -> Put
+    to: usize,
+) -> usize
     requires { ⌜ value count ≡ walkOf (now s) cursor ⌝ }
-    ensures { λ r. ⌜ Emitted (value (linksBytes (now (s .entry)) lib cursor count 0)) to (now (out .entry)) r (now (out .exit)) ⌝ }
+    ensures { λ r. ⌜ Emitted (value (linksBytes (now (s .entry)) lib cursor count 0)) (put to) (now (out .entry)) (put r) (now (out .exit)) ⌝ }
 {
     let mut t = to;
     let mut c = cursor;
@@ -95,8 +94,8 @@ fn put_links(
 }
 
 // A record of the chain: a reference, and its flags.
-fn put_link(s: &[u8], lib: TypeLib, link: RefRecord, out: &mut [u8], to: Put) -> Put
-    ensures { λ r. ⌜ Emitted (value (encode (implType edition-one (lib .count)) (implTypeAt (now (s .entry)) lib (record { at = link .at; len = link .len })))) to (now (out .entry)) r (now (out .exit)) ⌝ }
+fn put_link(s: &[u8], lib: TypeLib, link: RefRecord, out: &mut [u8], to: usize) -> usize
+    ensures { λ r. ⌜ Emitted (value (encode (implType edition-one (lib .count)) (implTypeAt (now (s .entry)) lib (record { at = link .at; len = link .len })))) (put to) (now (out .entry)) (put r) (now (out .exit)) ⌝ }
 {
     let t = references::put_reference(s, lib, emit::word_at(s, link.at, 0x00), out, to);
     emit::copy_u32(s, link.at, 0x04, out, t)

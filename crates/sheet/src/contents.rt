@@ -1,7 +1,6 @@
 // The contents and the bodies of a sheet. The contents are the count of types and the length of each body; a length is known
 // once its body is emitted, and is put into the contents then.
 use crate::types;
-use emit::Put;
 use sheet_trees::values;
 use typelib::TypeLib;
 ghost use mathlib.Core.Path.{_≡_};
@@ -11,8 +10,7 @@ ghost use Rattle.description.specs.Format.{encode};
 ghost use Rattle.description.specs.Sheet.{edition-one, header, typeInfo};
 ghost use Rattle.describe.specs.Describe.{headerOf};
 ghost use Rattle.describe.specs.Types.{typesFrom};
-ghost use Rattle.emit.specs.declared.Put.the-variants.{At};
-ghost use Rattle.emit.specs.Emit.{Emitted};
+ghost use Rattle.emit.specs.Emit.{Emitted, put};
 ghost use Rattle.sheet_members.specs.Lists.{layAll};
 ghost use Rattle.sheet.specs.Contents.{lensOf, sheetEmitted, Patched, Twofold};
 
@@ -22,21 +20,21 @@ const LIBRARY_LENGTH: usize = 4;
 const TYPE_LENGTHS: usize = 8;
 
 // The whole sheet.
-pub(crate) fn put_sheet(s: &[u8], lib: TypeLib, out: &mut [u8]) -> Put
+pub(crate) fn put_sheet(s: &[u8], lib: TypeLib, out: &mut [u8]) -> usize
     requires { ⌜ lib .count ≤ 65535 ⌝ }
-    ensures { λ r. ⌜ Emitted (sheetEmitted (now (s .entry)) lib) (At 0) (now (out .entry)) r (now (out .exit)) ⌝ }
+    ensures { λ r. ⌜ Emitted (sheetEmitted (now (s .entry)) lib) (put 0) (now (out .entry)) (put r) (now (out .exit)) ⌝ }
 {
     let count = lib.count as usize;
-    emit::put_le(out, Put::At(0), lib.count as u64, 4);
-    let start = Put::At(TYPE_LENGTHS + 4 * count);
+    emit::put_le(out, 0, lib.count as u64, 4);
+    let start = TYPE_LENGTHS + 4 * count;
     let t = put_header(s, lib, out, start);
     patch(start, t, LIBRARY_LENGTH, out);
     put_types(s, lib, out, t)
 }
 
 // The library's own body.
-fn put_header(s: &[u8], lib: TypeLib, out: &mut [u8], to: Put) -> Put
-    ensures { λ r. ⌜ Emitted (value (encode header (headerOf (now (s .entry)) lib))) to (now (out .entry)) r (now (out .exit)) ⌝ }
+fn put_header(s: &[u8], lib: TypeLib, out: &mut [u8], to: usize) -> usize
+    ensures { λ r. ⌜ Emitted (value (encode header (headerOf (now (s .entry)) lib))) (put to) (now (out .entry)) (put r) (now (out .exit)) ⌝ }
 {
     let t = emit::copy_u32(s, 0, 0x0C, out, to);
     let t = emit::copy_u32(s, 0, 0x18, out, t);
@@ -46,17 +44,17 @@ fn put_header(s: &[u8], lib: TypeLib, out: &mut [u8], to: Put) -> Put
 
 // The bodies of all types, from `to` on, with their lengths in the contents. (A refusal ends it at once: nothing is emitted
 // behind one.)
-fn put_types(s: &[u8], lib: TypeLib, out: &mut [u8], to: Put) -> Put
+fn put_types(s: &[u8], lib: TypeLib, out: &mut [u8], to: usize) -> usize
     requires { ⌜ lib .count ≤ 65535 ⌝ }
-    ensures { λ r. ⌜ Twofold (lensOf (typeInfo edition-one (lib .count)) (typesFrom (now (s .entry)) lib (lib .count) 0)) (layAll (typeInfo edition-one (lib .count)) (typesFrom (now (s .entry)) lib (lib .count) 0)) 8 to (now (out .entry)) r (now (out .exit)) ⌝ }
+    ensures { λ r. ⌜ Twofold (lensOf (typeInfo edition-one (lib .count)) (typesFrom (now (s .entry)) lib (lib .count) 0)) (layAll (typeInfo edition-one (lib .count)) (typesFrom (now (s .entry)) lib (lib .count) 0)) 8 (put to) (now (out .entry)) (put r) (now (out .exit)) ⌝ }
 {
     let count = lib.count as usize;
     let mut t = to;
     let mut i: usize = 0;
     while i < count {
-        let Put::At(_) = t else {
+        if emit::PAST < t {
             return t;
-        };
+        }
         let end = types::put_type_of(s, lib, i, out, t);
         patch(t, end, TYPE_LENGTHS + 4 * i, out);
         t = end;
@@ -65,17 +63,14 @@ fn put_types(s: &[u8], lib: TypeLib, out: &mut [u8], to: Put) -> Put
     t
 }
 
-// Puts the length of the body from `from` to `end` into the contents, at `at`.
-fn patch(from: Put, end: Put, at: usize, out: &mut [u8])
-    ensures { λ _. ⌜ Patched from end at (now (out .entry)) (now (out .exit)) ⌝ }
+// Puts the length of the body from `from` to `end` into the contents, at `at`; nothing where the body was refused.
+fn patch(from: usize, end: usize, at: usize, out: &mut [u8])
+    ensures { λ _. ⌜ Patched (put from) (put end) at (now (out .entry)) (now (out .exit)) ⌝ }
 {
-    let Put::At(p) = from else {
+    if emit::PAST < end {
         return;
-    };
-    let Put::At(q) = end else {
-        return;
-    };
-    if p <= q {
-        emit::put_le(out, Put::At(at), (q - p) as u64, 4);
+    }
+    if from <= end {
+        emit::put_le(out, at, (end - from) as u64, 4);
     }
 }

@@ -1,6 +1,5 @@
 // The sheet of a library: its description laid out in bytes (document 01, "The sheet (added)"). Two sheets are equal exactly
 // when the two libraries have the same description (`demand-3` of describe/specs/Demand3.antt, over this call's contract).
-use emit::Put;
 use records::answer::UsizeAnswer;
 use typelib::TypeLib;
 ghost use mathlib.Core.Path.{_≡_};
@@ -8,8 +7,7 @@ ghost use Prim.Native.Nat.{_≤_};
 ghost use Rattle.records.specs.Told.{toldUsize};
 ghost use Rattle.description.specs.Sheet.{edition-one};
 ghost use Rattle.describe.specs.Call.{Call};
-ghost use Rattle.emit.specs.declared.Put.the-variants.{At};
-ghost use Rattle.emit.specs.Emit.{moved};
+ghost use Rattle.emit.specs.Emit.{put, moved};
 ghost use Rattle.sheet.specs.Contents.{sheetEmitted, Answered};
 
 mod bases;
@@ -41,25 +39,24 @@ fn write(s: &[u8], lib: TypeLib, out: &mut [u8]) -> UsizeAnswer
     requires { ⌜ lib .count ≤ 65535 ⌝ }
     ensures { λ r. ⌜ Answered (sheetEmitted (now (s .entry)) lib) (now (out .entry)) (toldUsize r) (now (out .exit)) ⌝ }
 {
-    match measure(s, lib) {
-        Put::Refused(n) => UsizeAnswer::Refused(n),
-        Put::At(size) => {
-            if LIMIT < size {
-                UsizeAnswer::Refused(12)
-            } else if out.len() < size {
-                UsizeAnswer::Refused(12)
-            } else {
-                contents::put_sheet(s, lib, &mut out[..size]);
-                UsizeAnswer::Value(size)
-            }
-        }
+    let size = measure(s, lib);
+    if emit::PAST < size {
+        return UsizeAnswer::Refused((size - emit::PAST - 1) as u8);
     }
+    if LIMIT < size {
+        return UsizeAnswer::Refused(12);
+    }
+    if out.len() < size {
+        return UsizeAnswer::Refused(12);
+    }
+    contents::put_sheet(s, lib, &mut out[..size]);
+    UsizeAnswer::Value(size)
 }
 
 // Where the sheet would end, or its refusal.
-fn measure(s: &[u8], lib: TypeLib) -> Put
+fn measure(s: &[u8], lib: TypeLib) -> usize
     requires { ⌜ lib .count ≤ 65535 ⌝ }
-    ensures { λ r. ⌜ r ≡ moved (At 0) (sheetEmitted (now (s .entry)) lib) ⌝ }
+    ensures { λ r. ⌜ put r ≡ moved (put 0) (sheetEmitted (now (s .entry)) lib) ⌝ }
 {
     let mut none = [0u8; 0];
     contents::put_sheet(s, lib, &mut none)

@@ -1,6 +1,5 @@
 // Emitters of constants (document 01, "The sheet (added)"): the code of the case that was read, and then
 // the value, laid out by the shape that the code has.
-use emit::Put;
 use records::answer;
 use records::answer::Place;
 use records::answer::PlaceAnswer;
@@ -14,7 +13,7 @@ ghost use Rattle.description.specs.Format.{encode, opt};
 ghost use Rattle.description.specs.Description.{shapeOf};
 ghost use Rattle.description.specs.Sheet.{constant};
 ghost use Rattle.describe.specs.Constants.{contentOf, numberIn, placeIn, constantFrom, constantOf};
-ghost use Rattle.emit.specs.Emit.{Emitted};
+ghost use Rattle.emit.specs.Emit.{Emitted, put};
 ghost use Rattle.sheet_constants.specs.Told.{toldContent, toldShape};
 ghost use Rattle.sheet_constants.specs.Bytes.{markOf, textBytes, valueBytes};
 
@@ -132,8 +131,8 @@ fn place_in(content: Content) -> PlaceAnswer
 }
 
 // A text: byte 0 for null, or byte 1, the length and the bytes.
-fn put_text(s: &[u8], place: PlaceAnswer, out: &mut [u8], to: Put) -> Put
-    ensures { λ r. ⌜ Emitted (value (textBytes (now (s .entry)) (toldPlace place))) to (now (out .entry)) r (now (out .exit)) ⌝ }
+fn put_text(s: &[u8], place: PlaceAnswer, out: &mut [u8], to: usize) -> usize
+    ensures { λ r. ⌜ Emitted (value (textBytes (now (s .entry)) (toldPlace place))) (put to) (now (out .entry)) (put r) (now (out .exit)) ⌝ }
 {
     match place {
         PlaceAnswer::Value(p) => {
@@ -147,8 +146,8 @@ fn put_text(s: &[u8], place: PlaceAnswer, out: &mut [u8], to: Put) -> Put
 }
 
 // The value of a content by a shape.
-fn put_value(s: &[u8], content: Content, shape: Shape, out: &mut [u8], to: Put) -> Put
-    ensures { λ r. ⌜ Emitted (value (valueBytes (now (s .entry)) (toldContent content) (toldShape shape))) to (now (out .entry)) r (now (out .exit)) ⌝ }
+fn put_value(s: &[u8], content: Content, shape: Shape, out: &mut [u8], to: usize) -> usize
+    ensures { λ r. ⌜ Emitted (value (valueBytes (now (s .entry)) (toldContent content) (toldShape shape))) (put to) (now (out .entry)) (put r) (now (out .exit)) ⌝ }
 {
     match shape {
         Shape::Empty => to,
@@ -160,8 +159,8 @@ fn put_value(s: &[u8], content: Content, shape: Shape, out: &mut [u8], to: Put) 
 }
 
 // A constant: its code, and its value by the code's shape.
-pub fn put_constant(s: &[u8], v: ConstValue, out: &mut [u8], to: Put) -> Put
-    ensures { λ r. ⌜ Emitted (value (encode constant (constantFrom (now (s .entry)) v))) to (now (out .entry)) r (now (out .exit)) ⌝ }
+pub fn put_constant(s: &[u8], v: ConstValue, out: &mut [u8], to: usize) -> usize
+    ensures { λ r. ⌜ Emitted (value (encode constant (constantFrom (now (s .entry)) v))) (put to) (now (out .entry)) (put r) (now (out .exit)) ⌝ }
 {
     let code = v.vt();
     let t = emit::put_u16(out, to, code);
@@ -169,8 +168,8 @@ pub fn put_constant(s: &[u8], v: ConstValue, out: &mut [u8], to: Put) -> Put
 }
 
 // The constant that a record's word is or names: byte 0 where there is none, or byte 1 and the constant.
-pub fn put_opt_constant(s: &[u8], lib: TypeLib, word: u32, out: &mut [u8], to: Put) -> Put
-    ensures { λ r. ⌜ Emitted (value (encode (opt constant) (constantOf (now (s .entry)) lib word))) to (now (out .entry)) r (now (out .exit)) ⌝ }
+pub fn put_opt_constant(s: &[u8], lib: TypeLib, word: u32, out: &mut [u8], to: usize) -> usize
+    ensures { λ r. ⌜ Emitted (value (encode (opt constant) (constantOf (now (s .entry)) lib word))) (put to) (now (out .entry)) (put r) (now (out .exit)) ⌝ }
 {
     match lib.const_at(s, word) {
         ConstAnswer::Value(v) => {

@@ -1,6 +1,5 @@
 // Functions.
 use crate::parameters;
-use emit::Put;
 use records::func::FuncRecord;
 use records::typeinfo::TypeInfoEntry;
 use sheet_trees::trees;
@@ -17,13 +16,13 @@ ghost use Rattle.description.specs.Format.{encode, list};
 ghost use Rattle.description.specs.Sheet.{edition-one, u16, function};
 ghost use Rattle.describe.specs.Values.{all, numbered};
 ghost use Rattle.describe.specs.Members.{yields, functionOf, functionsOf};
-ghost use Rattle.emit.specs.Emit.{Emitted};
+ghost use Rattle.emit.specs.Emit.{Emitted, put};
 ghost use Rattle.sheet_members.specs.Lists.{layAll};
 ghost use Rattle.sheet_members.specs.Words.{functionWords};
 
 // The functions of a type: how many are yielded, and each.
-pub fn put_functions(s: &[u8], lib: TypeLib, ti: TypeInfoEntry, out: &mut [u8], to: Put) -> Put
-    ensures { λ r. ⌜ Emitted (map (encode (list u16 (function edition-one (lib .count)))) (all (functionsOf (now (s .entry)) lib ti))) to (now (out .entry)) r (now (out .exit)) ⌝ }
+pub fn put_functions(s: &[u8], lib: TypeLib, ti: TypeInfoEntry, out: &mut [u8], to: usize) -> usize
+    ensures { λ r. ⌜ Emitted (map (encode (list u16 (function edition-one (lib .count)))) (all (functionsOf (now (s .entry)) lib ti))) (put to) (now (out .entry)) (put r) (now (out .exit)) ⌝ }
 {
     match lib.funcs(s, ti) {
         FuncsAnswer::Value(cursor) => {
@@ -56,17 +55,17 @@ fn put_each(
     ti: TypeInfoEntry,
     cursor: FuncCursor,
     out: &mut [u8],
-    to: Put,
-) -> Put
-    ensures { λ r. ⌜ Emitted (layAll (function edition-one (lib .count)) (numbered (functionOf (now (s .entry)) lib ti) 0 (yields (funcStep (now (s .entry))) (cursor .remaining) cursor))) to (now (out .entry)) r (now (out .exit)) ⌝ }
+    to: usize,
+) -> usize
+    ensures { λ r. ⌜ Emitted (layAll (function edition-one (lib .count)) (numbered (functionOf (now (s .entry)) lib ti) 0 (yields (funcStep (now (s .entry))) (cursor .remaining) cursor))) (put to) (now (out .entry)) (put r) (now (out .exit)) ⌝ }
 {
     let mut t = to;
     let mut c = cursor;
     let mut i: usize = 0;
     loop {
-        let Put::At(_) = t else {
+        if emit::PAST < t {
             return t;
-        };
+        }
         let FuncStep::Record(func, next) = c.step(s) else {
             return t;
         };
@@ -84,9 +83,9 @@ fn put_function(
     index: usize,
     func: FuncRecord,
     out: &mut [u8],
-    to: Put,
-) -> Put
-    ensures { λ r. ⌜ Emitted (map (encode (function edition-one (lib .count))) (functionOf (now (s .entry)) lib ti index (record { at = func .at; len = func .len }))) to (now (out .entry)) r (now (out .exit)) ⌝ }
+    to: usize,
+) -> usize
+    ensures { λ r. ⌜ Emitted (map (encode (function edition-one (lib .count))) (functionOf (now (s .entry)) lib ti index (record { at = func .at; len = func .len }))) (put to) (now (out .entry)) (put r) (now (out .exit)) ⌝ }
 {
     let t = values::put_opt_memid(lib.func_memid(s, ti, index), out, to);
     let t = values::put_name_by(s, lib, lib.func_name_offset(s, ti, index), out, t);
@@ -96,8 +95,8 @@ fn put_function(
 }
 
 // The words of the record at `at` from 0x08 on.
-fn put_words(s: &[u8], at: usize, out: &mut [u8], to: Put) -> Put
-    ensures { λ r. ⌜ Emitted (value (functionWords (now (s .entry)) at)) to (now (out .entry)) r (now (out .exit)) ⌝ }
+fn put_words(s: &[u8], at: usize, out: &mut [u8], to: usize) -> usize
+    ensures { λ r. ⌜ Emitted (value (functionWords (now (s .entry)) at)) (put to) (now (out .entry)) (put r) (now (out .exit)) ⌝ }
 {
     let t = emit::copy_u32(s, at, 0x08, out, to);
     let t = emit::copy_u16(s, at, 0x0C, out, t);

@@ -1,5 +1,4 @@
 // Parameters.
-use emit::Put;
 use records::answer::I32Answer;
 use records::func::FuncRecord;
 use records::param::ParameterInfo;
@@ -18,12 +17,12 @@ ghost use Rattle.description.specs.Format.{encode, opt, list};
 ghost use Rattle.description.specs.Sheet.{edition-one, u16, constant, parameter};
 ghost use Rattle.describe.specs.Values.{all, numbered};
 ghost use Rattle.describe.specs.Members.{yields, constantBy, defaultOf, parameterOf, parametersOf};
-ghost use Rattle.emit.specs.Emit.{Emitted};
+ghost use Rattle.emit.specs.Emit.{Emitted, put};
 ghost use Rattle.sheet_members.specs.Lists.{layAll};
 
 // The parameters of a function: how many are yielded, and each.
-pub fn put_parameters(s: &[u8], lib: TypeLib, func: FuncRecord, out: &mut [u8], to: Put) -> Put
-    ensures { λ r. ⌜ Emitted (map (encode (list u16 (parameter edition-one (lib .count)))) (all (parametersOf (now (s .entry)) lib func))) to (now (out .entry)) r (now (out .exit)) ⌝ }
+pub fn put_parameters(s: &[u8], lib: TypeLib, func: FuncRecord, out: &mut [u8], to: usize) -> usize
+    ensures { λ r. ⌜ Emitted (map (encode (list u16 (parameter edition-one (lib .count)))) (all (parametersOf (now (s .entry)) lib func))) (put to) (now (out .entry)) (put r) (now (out .exit)) ⌝ }
 {
     match lib.params(s, func) {
         ParamsAnswer::Value(cursor) => {
@@ -56,17 +55,17 @@ fn put_each(
     func: FuncRecord,
     cursor: ParamCursor,
     out: &mut [u8],
-    to: Put,
-) -> Put
-    ensures { λ r. ⌜ Emitted (layAll (parameter edition-one (lib .count)) (numbered (parameterOf (now (s .entry)) lib func) 0 (yields (paramStep (now (s .entry))) (cursor .remaining) cursor))) to (now (out .entry)) r (now (out .exit)) ⌝ }
+    to: usize,
+) -> usize
+    ensures { λ r. ⌜ Emitted (layAll (parameter edition-one (lib .count)) (numbered (parameterOf (now (s .entry)) lib func) 0 (yields (paramStep (now (s .entry))) (cursor .remaining) cursor))) (put to) (now (out .entry)) (put r) (now (out .exit)) ⌝ }
 {
     let mut t = to;
     let mut c = cursor;
     let mut i: usize = 0;
     loop {
-        let Put::At(_) = t else {
+        if emit::PAST < t {
             return t;
-        };
+        }
         let ParamStep::Record(param, next) = c.step(s) else {
             return t;
         };
@@ -84,9 +83,9 @@ fn put_parameter(
     index: usize,
     param: ParameterInfo,
     out: &mut [u8],
-    to: Put,
-) -> Put
-    ensures { λ r. ⌜ Emitted (map (encode (parameter edition-one (lib .count))) (parameterOf (now (s .entry)) lib func index (record { at = param .at; len = param .len }))) to (now (out .entry)) r (now (out .exit)) ⌝ }
+    to: usize,
+) -> usize
+    ensures { λ r. ⌜ Emitted (map (encode (parameter edition-one (lib .count))) (parameterOf (now (s .entry)) lib func index (record { at = param .at; len = param .len }))) (put to) (now (out .entry)) (put r) (now (out .exit)) ⌝ }
 {
     let flags = emit::word_at(s, param.at, 0x08);
     let t = trees::put_tree(s, lib, emit::word_at(s, param.at, 0x00), out, to);
@@ -102,9 +101,9 @@ fn put_default(
     flags: u32,
     offset: I32Answer,
     out: &mut [u8],
-    to: Put,
-) -> Put
-    ensures { λ r. ⌜ Emitted (value (encode (opt constant) (defaultOf (now (s .entry)) lib flags (toldI32 offset)))) to (now (out .entry)) r (now (out .exit)) ⌝ }
+    to: usize,
+) -> usize
+    ensures { λ r. ⌜ Emitted (value (encode (opt constant) (defaultOf (now (s .entry)) lib flags (toldI32 offset)))) (put to) (now (out .entry)) (put r) (now (out .exit)) ⌝ }
 {
     if flags / 0x20 % 2 == 1 {
         put_constant_by(s, lib, offset, out, to)
@@ -113,8 +112,8 @@ fn put_default(
     }
 }
 
-fn put_constant_by(s: &[u8], lib: TypeLib, offset: I32Answer, out: &mut [u8], to: Put) -> Put
-    ensures { λ r. ⌜ Emitted (value (encode (opt constant) (constantBy (now (s .entry)) lib (toldI32 offset)))) to (now (out .entry)) r (now (out .exit)) ⌝ }
+fn put_constant_by(s: &[u8], lib: TypeLib, offset: I32Answer, out: &mut [u8], to: usize) -> usize
+    ensures { λ r. ⌜ Emitted (value (encode (opt constant) (constantBy (now (s .entry)) lib (toldI32 offset)))) (put to) (now (out .entry)) (put r) (now (out .exit)) ⌝ }
 {
     let I32Answer::Value(x) = offset else {
         return emit::put_u8(out, to, 0);

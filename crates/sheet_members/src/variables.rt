@@ -1,5 +1,4 @@
 // Variables.
-use emit::Put;
 use records::typeinfo::TypeInfoEntry;
 use records::var::VarRecord;
 use sheet_trees::trees;
@@ -17,13 +16,13 @@ ghost use Rattle.description.specs.Description.{isConstant};
 ghost use Rattle.description.specs.Sheet.{edition-one, u16, variable};
 ghost use Rattle.describe.specs.Values.{all, numbered};
 ghost use Rattle.describe.specs.Members.{yields, valueWith, variableOf, variablesOf};
-ghost use Rattle.emit.specs.Emit.{Emitted};
+ghost use Rattle.emit.specs.Emit.{Emitted, put};
 ghost use Rattle.sheet_members.specs.Lists.{layAll};
 ghost use Rattle.sheet_members.specs.Words.{valueBytes};
 
 // The variables of a type: how many are yielded, and each.
-pub fn put_variables(s: &[u8], lib: TypeLib, ti: TypeInfoEntry, out: &mut [u8], to: Put) -> Put
-    ensures { λ r. ⌜ Emitted (map (encode (list u16 (variable edition-one (lib .count)))) (all (variablesOf (now (s .entry)) lib ti))) to (now (out .entry)) r (now (out .exit)) ⌝ }
+pub fn put_variables(s: &[u8], lib: TypeLib, ti: TypeInfoEntry, out: &mut [u8], to: usize) -> usize
+    ensures { λ r. ⌜ Emitted (map (encode (list u16 (variable edition-one (lib .count)))) (all (variablesOf (now (s .entry)) lib ti))) (put to) (now (out .entry)) (put r) (now (out .exit)) ⌝ }
 {
     match lib.vars(s, ti) {
         VarsAnswer::Value(cursor) => {
@@ -56,17 +55,17 @@ fn put_each(
     ti: TypeInfoEntry,
     cursor: VarCursor,
     out: &mut [u8],
-    to: Put,
-) -> Put
-    ensures { λ r. ⌜ Emitted (layAll (variable edition-one (lib .count)) (numbered (variableOf (now (s .entry)) lib ti) 0 (yields (varStep (now (s .entry))) (cursor .remaining) cursor))) to (now (out .entry)) r (now (out .exit)) ⌝ }
+    to: usize,
+) -> usize
+    ensures { λ r. ⌜ Emitted (layAll (variable edition-one (lib .count)) (numbered (variableOf (now (s .entry)) lib ti) 0 (yields (varStep (now (s .entry))) (cursor .remaining) cursor))) (put to) (now (out .entry)) (put r) (now (out .exit)) ⌝ }
 {
     let mut t = to;
     let mut c = cursor;
     let mut i: usize = 0;
     loop {
-        let Put::At(_) = t else {
+        if emit::PAST < t {
             return t;
-        };
+        }
         let VarStep::Record(var, next) = c.step(s) else {
             return t;
         };
@@ -84,9 +83,9 @@ fn put_variable(
     index: usize,
     var: VarRecord,
     out: &mut [u8],
-    to: Put,
-) -> Put
-    ensures { λ r. ⌜ Emitted (map (encode (variable edition-one (lib .count))) (variableOf (now (s .entry)) lib ti index (record { at = var .at; len = var .len }))) to (now (out .entry)) r (now (out .exit)) ⌝ }
+    to: usize,
+) -> usize
+    ensures { λ r. ⌜ Emitted (map (encode (variable edition-one (lib .count))) (variableOf (now (s .entry)) lib ti index (record { at = var .at; len = var .len }))) (put to) (now (out .entry)) (put r) (now (out .exit)) ⌝ }
 {
     let varkind = emit::half_at(s, var.at, 0x0C);
     let t = values::put_opt_memid(lib.var_memid(s, ti, index), out, to);
@@ -98,8 +97,8 @@ fn put_variable(
 }
 
 // The word at 0x10: a constant where 0x0C holds 2.
-fn put_value(s: &[u8], lib: TypeLib, varkind: u16, word: u32, out: &mut [u8], to: Put) -> Put
-    ensures { λ r. ⌜ Emitted (value (valueBytes (isConstant varkind) (valueWith (now (s .entry)) lib (isConstant varkind) word))) to (now (out .entry)) r (now (out .exit)) ⌝ }
+fn put_value(s: &[u8], lib: TypeLib, varkind: u16, word: u32, out: &mut [u8], to: usize) -> usize
+    ensures { λ r. ⌜ Emitted (value (valueBytes (isConstant varkind) (valueWith (now (s .entry)) lib (isConstant varkind) word))) (put to) (now (out .entry)) (put r) (now (out .exit)) ⌝ }
 {
     if varkind == 2 {
         sheet_constants::put_opt_constant(s, lib, word, out, to)

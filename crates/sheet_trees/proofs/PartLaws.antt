@@ -38,7 +38,7 @@ use Rattle.description.specs.Sheet.{edition-one, u32, guid, name, own, file, bi
 use Rattle.describe.specs.Values.{found, bytesIn, fieldOf}
 use Rattle.describe.specs.References.{guidOf, fileWith, fileOf, ownOf, importOf, referenceFrom, referenceOf}
 use Rattle.describe.specs.Members.{nameOf, nameBy, memidBy}
-use Rattle.emit.specs.declared.Put.{Put}
+use Rattle.emit.specs.Emit.{Put}
 use Rattle.emit.specs.Emit.{_▸_, Emitted}
 use Rattle.emit.specs.Laws.{known}
 use Rattle.sheet_trees.specs.Parts.{optPart, referenceBytes, internalBytes, ownBytes, fileBytes, importBytes}

@@ -22,7 +22,7 @@ use Rattle.description.specs.Description.Tree.{nothing, base, pointer, safeArra
 use Rattle.description.specs.Sheet.{edition-one, u16, dimension, level, nested, tree}
 use Rattle.describe.specs.Values.{fieldOf}
 use Rattle.describe.specs.Trees.{dimensionsAt, dimensionsOf, treeFrom, nestedOf, treeOf}
-use Rattle.emit.specs.declared.Put.{Put}
+use Rattle.emit.specs.Emit.{Put}
 use Rattle.emit.specs.Emit.{_▸_, Emitted}
 use Rattle.emit.specs.Laws.{join, skip, known}
 use Rattle.sheet_trees.specs.declared.trees.Inner.{Inner}

@@ -1,6 +1,5 @@
 // References.
 use crate::values;
-use emit::Put;
 use records::answer::PlaceAnswer;
 use records::impfile::ImpFile;
 use records::impinfo::ImpInfo;
@@ -19,12 +18,12 @@ ghost use Rattle.description.specs.Format.{encode, opt, leBytes};
 ghost use Rattle.description.specs.Description.{ownIsGuid};
 ghost use Rattle.description.specs.Sheet.{edition-one, own, file, reference};
 ghost use Rattle.describe.specs.References.{fileOf, fileAt, ownOf, importOf, referenceFrom, referenceOf};
-ghost use Rattle.emit.specs.Emit.{Emitted};
+ghost use Rattle.emit.specs.Emit.{Emitted, put};
 ghost use Rattle.sheet_trees.specs.Parts.{ownBytes, fileBytes, importBytes, internalBytes, referenceBytes};
 
 // The reference of an hreftype.
-pub fn put_reference(s: &[u8], lib: TypeLib, href: u32, out: &mut [u8], to: Put) -> Put
-    ensures { λ r. ⌜ Emitted (value (encode (reference edition-one (lib .count)) (referenceOf (now (s .entry)) lib href))) to (now (out .entry)) r (now (out .exit)) ⌝ }
+pub fn put_reference(s: &[u8], lib: TypeLib, href: u32, out: &mut [u8], to: usize) -> usize
+    ensures { λ r. ⌜ Emitted (value (encode (reference edition-one (lib .count)) (referenceOf (now (s .entry)) lib href))) (put to) (now (out .entry)) (put r) (now (out .exit)) ⌝ }
 {
     let bit = util::bits(href, 24, 1);
     match lib.resolve_hreftype_full(s, util::signed32(href)) {
@@ -40,9 +39,9 @@ fn put_resolved(
     bit: u32,
     resolved: ResolvedHreftype,
     out: &mut [u8],
-    to: Put,
-) -> Put
-    ensures { λ r. ⌜ Emitted (value (referenceBytes lib (referenceFrom (now (s .entry)) lib bit (value (toldHreftype resolved))))) to (now (out .entry)) r (now (out .exit)) ⌝ }
+    to: usize,
+) -> usize
+    ensures { λ r. ⌜ Emitted (value (referenceBytes lib (referenceFrom (now (s .entry)) lib bit (value (toldHreftype resolved))))) (put to) (now (out .entry)) (put r) (now (out .exit)) ⌝ }
 {
     match resolved {
         ResolvedHreftype::Internal(index) => put_internal(bit, index, out, to),
@@ -52,8 +51,8 @@ fn put_resolved(
     }
 }
 
-fn put_internal(bit: u32, index: TypeInfoIndex, out: &mut [u8], to: Put) -> Put
-    ensures { λ r. ⌜ Emitted (value (internalBytes bit (index .0))) to (now (out .entry)) r (now (out .exit)) ⌝ }
+fn put_internal(bit: u32, index: TypeInfoIndex, out: &mut [u8], to: usize) -> usize
+    ensures { λ r. ⌜ Emitted (value (internalBytes bit (index .0))) (put to) (now (out .entry)) (put r) (now (out .exit)) ⌝ }
 {
     let t = emit::put_u8(out, to, 1);
     let t = emit::put_le(out, t, bit as u64, 1);
@@ -67,9 +66,9 @@ fn put_import(
     info: ImpInfo,
     imp_file: ImpFileAnswer,
     out: &mut [u8],
-    to: Put,
-) -> Put
-    ensures { λ r. ⌜ Emitted (value (importBytes (importOf (now (s .entry)) lib bit (info .at) (toldImpFile «imp_file»)))) to (now (out .entry)) r (now (out .exit)) ⌝ }
+    to: usize,
+) -> usize
+    ensures { λ r. ⌜ Emitted (value (importBytes (importOf (now (s .entry)) lib bit (info .at) (toldImpFile «imp_file»)))) (put to) (now (out .entry)) (put r) (now (out .exit)) ⌝ }
 {
     let flags = emit::word_at(s, info.at, 0x00);
     let t = emit::put_u8(out, to, 2);
@@ -80,8 +79,8 @@ fn put_import(
 }
 
 // The word at 0x08 of an import record: a GUID's offset where its flags have 0x10000.
-fn put_own(s: &[u8], lib: TypeLib, flags: u32, word: u32, out: &mut [u8], to: Put) -> Put
-    ensures { λ r. ⌜ Emitted (value (ownBytes (ownIsGuid flags) (ownOf (now (s .entry)) lib (ownIsGuid flags) word))) to (now (out .entry)) r (now (out .exit)) ⌝ }
+fn put_own(s: &[u8], lib: TypeLib, flags: u32, word: u32, out: &mut [u8], to: usize) -> usize
+    ensures { λ r. ⌜ Emitted (value (ownBytes (ownIsGuid flags) (ownOf (now (s .entry)) lib (ownIsGuid flags) word))) (put to) (now (out .entry)) (put r) (now (out .exit)) ⌝ }
 {
     if flags / 0x10000 % 2 == 1 {
         values::put_opt_guid(s, lib, word, out, to)
@@ -90,8 +89,8 @@ fn put_own(s: &[u8], lib: TypeLib, flags: u32, word: u32, out: &mut [u8], to: Pu
     }
 }
 
-fn put_opt_file(s: &[u8], lib: TypeLib, imp_file: ImpFileAnswer, out: &mut [u8], to: Put) -> Put
-    ensures { λ r. ⌜ Emitted (value (encode (opt file) (fileOf (now (s .entry)) lib (toldImpFile «imp_file»)))) to (now (out .entry)) r (now (out .exit)) ⌝ }
+fn put_opt_file(s: &[u8], lib: TypeLib, imp_file: ImpFileAnswer, out: &mut [u8], to: usize) -> usize
+    ensures { λ r. ⌜ Emitted (value (encode (opt file) (fileOf (now (s .entry)) lib (toldImpFile «imp_file»)))) (put to) (now (out .entry)) (put r) (now (out .exit)) ⌝ }
 {
     match imp_file {
         ImpFileAnswer::Value(f) => put_file(s, lib, f, f.filename_bytes(s), out, to),
@@ -99,8 +98,15 @@ fn put_opt_file(s: &[u8], lib: TypeLib, imp_file: ImpFileAnswer, out: &mut [u8],
     }
 }
 
-fn put_file(s: &[u8], lib: TypeLib, f: ImpFile, name: PlaceAnswer, out: &mut [u8], to: Put) -> Put
-    ensures { λ r. ⌜ Emitted (value (fileBytes (now (s .entry)) lib (f .at) (toldPlace name))) to (now (out .entry)) r (now (out .exit)) ⌝ }
+fn put_file(
+    s: &[u8],
+    lib: TypeLib,
+    f: ImpFile,
+    name: PlaceAnswer,
+    out: &mut [u8],
+    to: usize,
+) -> usize
+    ensures { λ r. ⌜ Emitted (value (fileBytes (now (s .entry)) lib (f .at) (toldPlace name))) (put to) (now (out .entry)) (put r) (now (out .exit)) ⌝ }
 {
     let PlaceAnswer::Value(place) = name else {
         return emit::put_u8(out, to, 0);

@@ -1,6 +1,5 @@
 // Trees.
 use crate::references;
-use emit::Put;
 use records::arraydesc::ArrayDesc;
 use records::types::TypeDescription;
 use typelib::TypeLib;
@@ -14,7 +13,7 @@ ghost use Rattle.description.specs.Format.{encode, leBytes};
 ghost use Rattle.description.specs.Sheet.{edition-one, reference, nested, tree};
 ghost use Rattle.describe.specs.References.{referenceOf};
 ghost use Rattle.describe.specs.Trees.{nestedOf, treeOf};
-ghost use Rattle.emit.specs.Emit.{Emitted};
+ghost use Rattle.emit.specs.Emit.{Emitted, put};
 ghost use Rattle.sheet_trees.specs.Parts.{arrayBytes, dimensionsBytes, headBytes, innerOf, toldInner};
 
 // The most descriptions that a tree nests.
@@ -27,15 +26,15 @@ pub enum Inner {
 }
 
 // The tree of a type field.
-pub fn put_tree(s: &[u8], lib: TypeLib, field: u32, out: &mut [u8], to: Put) -> Put
-    ensures { λ r. ⌜ Emitted (map (encode (tree edition-one (lib .count))) (treeOf (now (s .entry)) lib field)) to (now (out .entry)) r (now (out .exit)) ⌝ }
+pub fn put_tree(s: &[u8], lib: TypeLib, field: u32, out: &mut [u8], to: usize) -> usize
+    ensures { λ r. ⌜ Emitted (map (encode (tree edition-one (lib .count))) (treeOf (now (s .entry)) lib field)) (put to) (now (out .entry)) (put r) (now (out .exit)) ⌝ }
 {
     put_nested(s, lib, field, LEVELS, out, to)
 }
 
 // The same, of at most `levels` descriptions; refusal 11 where there are more.
-fn put_nested(s: &[u8], lib: TypeLib, field: u32, levels: usize, out: &mut [u8], to: Put) -> Put
-    ensures { λ r. ⌜ Emitted (map (encode (nested edition-one (lib .count) levels)) (nestedOf (now (s .entry)) lib levels field)) to (now (out .entry)) r (now (out .exit)) ⌝ }
+fn put_nested(s: &[u8], lib: TypeLib, field: u32, levels: usize, out: &mut [u8], to: usize) -> usize
+    ensures { λ r. ⌜ Emitted (map (encode (nested edition-one (lib .count) levels)) (nestedOf (now (s .entry)) lib levels field)) (put to) (now (out .entry)) (put r) (now (out .exit)) ⌝ }
 {
     if levels == 0 {
         return emit::put_refusal(to, 11);
@@ -49,8 +48,14 @@ fn put_nested(s: &[u8], lib: TypeLib, field: u32, levels: usize, out: &mut [u8],
 }
 
 // A description without the tree under it.
-fn put_head(s: &[u8], lib: TypeLib, description: DescriptionAnswer, out: &mut [u8], to: Put) -> Put
-    ensures { λ r. ⌜ Emitted (value (headBytes (now (s .entry)) lib (toldDescription description))) to (now (out .entry)) r (now (out .exit)) ⌝ }
+fn put_head(
+    s: &[u8],
+    lib: TypeLib,
+    description: DescriptionAnswer,
+    out: &mut [u8],
+    to: usize,
+) -> usize
+    ensures { λ r. ⌜ Emitted (value (headBytes (now (s .entry)) lib (toldDescription description))) (put to) (now (out .entry)) (put r) (now (out .exit)) ⌝ }
 {
     match description {
         DescriptionAnswer::Value(d) => put_code(s, lib, d, out, to),
@@ -58,8 +63,8 @@ fn put_head(s: &[u8], lib: TypeLib, description: DescriptionAnswer, out: &mut [u
     }
 }
 
-fn put_code(s: &[u8], lib: TypeLib, d: TypeDescription, out: &mut [u8], to: Put) -> Put
-    ensures { λ r. ⌜ Emitted (value (headBytes (now (s .entry)) lib (value d))) to (now (out .entry)) r (now (out .exit)) ⌝ }
+fn put_code(s: &[u8], lib: TypeLib, d: TypeDescription, out: &mut [u8], to: usize) -> usize
+    ensures { λ r. ⌜ Emitted (value (headBytes (now (s .entry)) lib (value d))) (put to) (now (out .entry)) (put r) (now (out .exit)) ⌝ }
 {
     match d {
         TypeDescription::Base(vt) => put_base(vt, out, to),
@@ -70,23 +75,23 @@ fn put_code(s: &[u8], lib: TypeLib, d: TypeDescription, out: &mut [u8], to: Put)
     }
 }
 
-fn put_base(vt: u16, out: &mut [u8], to: Put) -> Put
-    ensures { λ r. ⌜ Emitted (value (1 ∷ leBytes 2 vt)) to (now (out .entry)) r (now (out .exit)) ⌝ }
+fn put_base(vt: u16, out: &mut [u8], to: usize) -> usize
+    ensures { λ r. ⌜ Emitted (value (1 ∷ leBytes 2 vt)) (put to) (now (out .entry)) (put r) (now (out .exit)) ⌝ }
 {
     let t = emit::put_u8(out, to, 1);
     emit::put_u16(out, t, vt)
 }
 
-fn put_user(s: &[u8], lib: TypeLib, href: u32, out: &mut [u8], to: Put) -> Put
-    ensures { λ r. ⌜ Emitted (value (5 ∷ encode (reference edition-one (lib .count)) (referenceOf (now (s .entry)) lib href))) to (now (out .entry)) r (now (out .exit)) ⌝ }
+fn put_user(s: &[u8], lib: TypeLib, href: u32, out: &mut [u8], to: usize) -> usize
+    ensures { λ r. ⌜ Emitted (value (5 ∷ encode (reference edition-one (lib .count)) (referenceOf (now (s .entry)) lib href))) (put to) (now (out .entry)) (put r) (now (out .exit)) ⌝ }
 {
     let t = emit::put_u8(out, to, 5);
     references::put_reference(s, lib, href, out, t)
 }
 
 // A C array's descriptor: the count of its dimensions, and each.
-fn put_array(s: &[u8], desc: ArrayDesc, out: &mut [u8], to: Put) -> Put
-    ensures { λ r. ⌜ Emitted (value (arrayBytes (now (s .entry)) (desc .at))) to (now (out .entry)) r (now (out .exit)) ⌝ }
+fn put_array(s: &[u8], desc: ArrayDesc, out: &mut [u8], to: usize) -> usize
+    ensures { λ r. ⌜ Emitted (value (arrayBytes (now (s .entry)) (desc .at))) (put to) (now (out .entry)) (put r) (now (out .exit)) ⌝ }
 {
     let count = emit::half_at(s, desc.at, 0x04);
     let t = emit::put_u8(out, to, 4);
@@ -95,8 +100,8 @@ fn put_array(s: &[u8], desc: ArrayDesc, out: &mut [u8], to: Put) -> Put
 }
 
 // The dimensions of the array descriptor at `at`, eight bytes each, behind its eight bytes.
-fn put_dimensions(s: &[u8], at: usize, count: u16, out: &mut [u8], to: Put) -> Put
-    ensures { λ r. ⌜ Emitted (value (dimensionsBytes (now (s .entry)) (at + 8) count)) to (now (out .entry)) r (now (out .exit)) ⌝ }
+fn put_dimensions(s: &[u8], at: usize, count: u16, out: &mut [u8], to: usize) -> usize
+    ensures { λ r. ⌜ Emitted (value (dimensionsBytes (now (s .entry)) (at + 8) count)) (put to) (now (out .entry)) (put r) (now (out .exit)) ⌝ }
 {
     let mut t = to;
     let mut offset: usize = 8;

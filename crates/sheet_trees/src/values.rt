@@ -1,5 +1,4 @@
 // Numbers, names and GUIDs that may be missing: byte 0 for nothing, or byte 1 and the value.
-use emit::Put;
 use records::answer;
 use records::answer::I32Answer;
 use records::answer::PlaceAnswer;
@@ -12,12 +11,12 @@ ghost use Rattle.description.specs.Sheet.{u32, guid, name};
 ghost use Rattle.describe.specs.Values.{found, bytesIn};
 ghost use Rattle.describe.specs.References.{guidOf};
 ghost use Rattle.describe.specs.Members.{nameOf, nameBy, memidBy};
-ghost use Rattle.emit.specs.Emit.{Emitted};
+ghost use Rattle.emit.specs.Emit.{Emitted, put};
 ghost use Rattle.sheet_trees.specs.Parts.{optPart};
 
 // The bytes at a place of the library, behind their count in `width` bytes.
-pub fn put_opt_part(s: &[u8], place: PlaceAnswer, width: usize, out: &mut [u8], to: Put) -> Put
-    ensures { λ r. ⌜ Emitted (value (optPart width (found (bytesIn (now (s .entry)) (toldPlace place))))) to (now (out .entry)) r (now (out .exit)) ⌝ }
+pub fn put_opt_part(s: &[u8], place: PlaceAnswer, width: usize, out: &mut [u8], to: usize) -> usize
+    ensures { λ r. ⌜ Emitted (value (optPart width (found (bytesIn (now (s .entry)) (toldPlace place))))) (put to) (now (out .entry)) (put r) (now (out .exit)) ⌝ }
 {
     match place {
         PlaceAnswer::Value(p) => {
@@ -31,22 +30,22 @@ pub fn put_opt_part(s: &[u8], place: PlaceAnswer, width: usize, out: &mut [u8], 
 }
 
 // The GUID at an offset.
-pub fn put_opt_guid(s: &[u8], lib: TypeLib, offset: u32, out: &mut [u8], to: Put) -> Put
-    ensures { λ r. ⌜ Emitted (value (encode (opt guid) (guidOf (now (s .entry)) lib offset))) to (now (out .entry)) r (now (out .exit)) ⌝ }
+pub fn put_opt_guid(s: &[u8], lib: TypeLib, offset: u32, out: &mut [u8], to: usize) -> usize
+    ensures { λ r. ⌜ Emitted (value (encode (opt guid) (guidOf (now (s .entry)) lib offset))) (put to) (now (out .entry)) (put r) (now (out .exit)) ⌝ }
 {
     put_opt_part(s, lib.guid_at(s, offset), 0, out, to)
 }
 
 // The name at an offset.
-pub fn put_opt_name(s: &[u8], lib: TypeLib, offset: u32, out: &mut [u8], to: Put) -> Put
-    ensures { λ r. ⌜ Emitted (value (encode (opt name) (nameOf (now (s .entry)) lib offset))) to (now (out .entry)) r (now (out .exit)) ⌝ }
+pub fn put_opt_name(s: &[u8], lib: TypeLib, offset: u32, out: &mut [u8], to: usize) -> usize
+    ensures { λ r. ⌜ Emitted (value (encode (opt name) (nameOf (now (s .entry)) lib offset))) (put to) (now (out .entry)) (put r) (now (out .exit)) ⌝ }
 {
     put_opt_part(s, lib.name_at(s, offset), 1, out, to)
 }
 
 // A member's name: missing where its offset is.
-pub fn put_name_by(s: &[u8], lib: TypeLib, offset: I32Answer, out: &mut [u8], to: Put) -> Put
-    ensures { λ r. ⌜ Emitted (value (encode (opt name) (nameBy (now (s .entry)) lib (toldI32 offset)))) to (now (out .entry)) r (now (out .exit)) ⌝ }
+pub fn put_name_by(s: &[u8], lib: TypeLib, offset: I32Answer, out: &mut [u8], to: usize) -> usize
+    ensures { λ r. ⌜ Emitted (value (encode (opt name) (nameBy (now (s .entry)) lib (toldI32 offset)))) (put to) (now (out .entry)) (put r) (now (out .exit)) ⌝ }
 {
     let I32Answer::Value(x) = offset else {
         return emit::put_u8(out, to, 0);
@@ -55,8 +54,8 @@ pub fn put_name_by(s: &[u8], lib: TypeLib, offset: I32Answer, out: &mut [u8], to
 }
 
 // A member's identifier.
-pub fn put_opt_memid(memid: I32Answer, out: &mut [u8], to: Put) -> Put
-    ensures { λ r. ⌜ Emitted (value (encode (opt u32) (memidBy (toldI32 memid)))) to (now (out .entry)) r (now (out .exit)) ⌝ }
+pub fn put_opt_memid(memid: I32Answer, out: &mut [u8], to: usize) -> usize
+    ensures { λ r. ⌜ Emitted (value (encode (opt u32) (memidBy (toldI32 memid)))) (put to) (now (out .entry)) (put r) (now (out .exit)) ⌝ }
 {
     let I32Answer::Value(x) = memid else {
         return emit::put_u8(out, to, 0);

@@ -1,7 +1,6 @@
 use mathlib.Core.Path.{refl, sym, _∙_}
 use borrow.Author.Tests.{leb-true, leb-false}
-use native.Mathlib.Omega.{arith}
-use Rattle.emit.specs.Laws.{stored, unstored, refused-already}
+use Rattle.emit.specs.Laws.{stored, unstored}
 use borrow.Author.Needs.{needs}
 use Rattle.emit.proofs.put_bytes.Statement.{statement}
 use Rattle.emit.proofs.put_bytes.Tie as tie
@@ -11,57 +10,42 @@ use Rattle.emit.proofs.further.Reads as further-reads
 use Rattle.emit.proofs.has_room.Reads as has-room-reads
 use Rattle.emit.proofs.store.Reads as store-reads
 
--- src/lib.rt:140:17
-enum-known-to : tie.Need-enum-known-to
-enum-known-to c = search needs
-
--- src/lib.rt:141:16
+-- src/lib.rt:124:8
 has-room-requires : tie.Need-has-room-requires
 has-room-requires c κs = search needs
 
--- src/lib.rt:142:17
+-- src/lib.rt:125:9
 store-requires : tie.Need-store-requires
 store-requires c κs = leb-true _ _ (sym (c .before .before .has-room .ensures) ∙ c .before .if1 .taken)
 
--- src/lib.rt:143:25
+-- src/lib.rt:126:9
 further-requires : tie.Need-further-requires
 further-requires c κs = search needs
 
--- src/lib.rt:145:25
+-- src/lib.rt:128:9
 further-requires-2 : tie.Need-further-requires-2
 further-requires-2 c κs = search needs
 
--- src/lib.rt:148:22
-enum-known-to-2 : tie.Need-enum-known-to-2
-enum-known-to-2 c = search needs
-
--- src/lib.rt:136:1
+-- src/lib.rt:121:1
 same-length : tie.Need-same-length
 same-length c = search needs
 
--- src/lib.rt:136:1
+-- src/lib.rt:121:1
 returns : tie.Need-returns
-returns c = stored (c .before .before .before .before .before .before .before .before .to .given .1) (c .further .ensures) refl (c .before .before .before .store .ensures)
+returns c = stored _ (c .further .ensures) refl (c .before .before .before .store .ensures)
 
--- src/lib.rt:136:1
+-- src/lib.rt:121:1
 returns-2 : tie.Need-returns-2
-returns-2 c = unstored (c .before .before .before .before .to .given .1) (c .further2 .ensures) refl (leb-false _ _ (sym (c .before .before .has-room .ensures) ∙ c .before .if1 .left))
-
--- src/lib.rt:136:1
-returns-3 : tie.Need-returns-3
-returns-3 c = refused-already (c .before .to2 .given .1)
+returns-2 c = unstored _ (c .further2 .ensures) refl (leb-false _ _ (sym (c .before .before .has-room .ensures) ∙ c .before .if1 .left))
 
 pub put-bytes-spec : {M : Type 1} → statement M
 put-bytes-spec =
     tie.close
     (tie.spec
-    enum-known-to
     has-room-requires
     store-requires
     further-requires
     further-requires-2
-    enum-known-to-2
     same-length
     returns
-    returns-2
-    returns-3)
+    returns-2)

@@ -9,43 +9,43 @@ use Rattle.sheet.proofs.contents.patch.Reads as patch-reads
 use Rattle.sheet.proofs.contents.put_header.Reads as put-header-reads
 use Rattle.sheet.proofs.contents.put_types.Reads as put-types-reads
 
--- src/contents.rt:29:17
+-- src/contents.rt:27:17
 cast-count : tie.Need-cast-count
 cast-count c = search needs
 
--- src/contents.rt:30:35
+-- src/contents.rt:28:26
 cast-put-le : tie.Need-cast-put-le
 cast-put-le c = search needs
 
--- src/contents.rt:30:5
+-- src/contents.rt:28:5
 put-le-requires : tie.Need-put-le-requires
 put-le-requires c κs = search needs
 
--- src/contents.rt:31:40
-mul-t12 : tie.Need-mul-t12
-mul-t12 c = search needs
+-- src/contents.rt:29:32
+mul-start : tie.Need-mul-start
+mul-start c = search needs
 
--- src/contents.rt:31:25
-add-t13 : tie.Need-add-t13
-add-t13 c = search needs
+-- src/contents.rt:29:17
+add-start : tie.Need-add-start
+add-start c = search needs
 
--- src/contents.rt:32:9
+-- src/contents.rt:30:9
 put-header-requires : tie.Need-put-header-requires
 put-header-requires c κs = search needs
 
--- src/contents.rt:33:5
+-- src/contents.rt:31:5
 patch-requires : tie.Need-patch-requires
 patch-requires c κs = search needs
 
--- src/contents.rt:34:5
+-- src/contents.rt:32:5
 put-types-requires : tie.Need-put-types-requires
 put-types-requires c κs = search needs
 
--- src/contents.rt:25:1
+-- src/contents.rt:23:1
 same-length : tie.Need-same-length
 same-length c = search needs
 
--- src/contents.rt:25:1
+-- src/contents.rt:23:1
 returns : tie.Need-returns
 returns c = sheet-whole _ _ (c .before .before .before .before .before .before .before .before .before .before .before .before .before .before .before .before .before .before .before .before .pre) (c .before .before .before .before .before .before .before .before .before .before .before .before .before .before .put-le .ensures) (c .before .before .before .before .before .before .before .before .before .before .put-header .ensures) (c .before .before .before .before .before .before .patch .ensures) (c .before .before .put-types .ensures)
 
@@ -56,8 +56,8 @@ put-sheet-spec =
     cast-count
     cast-put-le
     put-le-requires
-    mul-t12
-    add-t13
+    mul-start
+    add-start
     put-header-requires
     patch-requires
     put-types-requires
