@@ -1,10 +1,11 @@
-//! What the reference answers to every reading of a library, as bytes.
+//! What the reference answers to every reading of a library, as bytes, and the sheet made from it.
 
 use std::collections::HashSet;
 use std::fmt::Debug;
 
 use crate::enumerate::segment_start;
-use crate::readings::{NOTHING, Reading, Reply, place_in, reading};
+use crate::readings::{NOTHING, Reading, Reply, VALUE, place_in, reading};
+use crate::sheet::sheet;
 use crate::{
     ArrayDesc, ConstValue, Error, FuncRecord, GuidEntry, ImpFile, ImpInfo, ParameterInfo,
     RefRecord, ResolvedHreftype, TypeDescription, TypeInfoEntry, TypeLib,
@@ -105,13 +106,15 @@ asks! {
     ImpFiles "imp_files",
     ImplTypes "impl_types",
     Walk "walk",
+    Sheet "sheet",
 }
 
 /// A question about a library: what is asked, and its numbers.
 ///
 /// A reading at an offset or of a word has that word first, as a 32-bit pattern; one by an index has
 /// the index first, and a member's name its own index second. A reading of a record has the record's
-/// place and length, and an index third. `TablePlace` has a segment, a size and an offset.
+/// place and length, and an index third. `TablePlace` has a segment, a size and an offset. `Sheet` has
+/// the length of the output.
 #[derive(Clone, Copy, Debug, PartialEq, Eq, PartialOrd, Ord, Hash)]
 pub struct Question {
     pub ask: Ask,
@@ -165,17 +168,21 @@ pub fn typeinfo_refusal(error: Error) -> u8 {
 /// The answers to a question, in the order in which the replay compares them.
 pub fn answers(lent: &[u8], question: Question) -> Vec<Reading> {
     let Question { ask, numbers } = question;
+    let mut told = Told {
+        lent,
+        ask,
+        readings: Vec::new(),
+    };
     let lib = match (ask, TypeLib::parse(lent)) {
+        (Ask::Sheet, _) => {
+            told.sheet(numbers[0] as usize);
+            return told.readings;
+        }
         (Ask::Parse, Err(error)) => {
             return vec![reading("parse", lent, Some(Refused(parse_refusal(error))))];
         }
         (Ask::Parse, Ok(_)) => return vec![reading("parse", lent, Some(Refused(0)))],
         (_, parsed) => parsed.expect("a library that is asked for more can be parsed"),
-    };
-    let mut told = Told {
-        lent,
-        ask,
-        readings: Vec::new(),
     };
     match ask {
         _ if ask < Ask::Segment => told.header(&lib),
@@ -585,6 +592,28 @@ impl<'a> Told<'a> {
             offset = reference.onext();
         }
         self.own(passed.len());
+    }
+
+    /// How many bytes the sheet has, and these; or its refusal. The sheet is no reading of the
+    /// reference, and is made from its readings.
+    fn sheet(&mut self, room: usize) {
+        match sheet(self.lent, room) {
+            Ok(bytes) => {
+                self.own(bytes.len());
+                self.tell("bytes", Bytes(bytes));
+            }
+            Err(number) => self.own(Refused(number)),
+        }
+    }
+}
+
+/// Bytes that are no part of the lent ones: all that follows in the answer.
+struct Bytes(Vec<u8>);
+
+impl Reply for Bytes {
+    fn write(self, _: &[u8], answer: &mut Vec<u8>) {
+        answer.push(VALUE);
+        answer.extend(self.0);
     }
 }
 

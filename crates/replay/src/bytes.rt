@@ -1,6 +1,6 @@
 // The recorded bytes of one answer: a first byte, which is 0 for a value and else the number of the
 // refusal, and behind a 0 the value. That is one or two numbers, each at its own width with the lowest
-// byte first; or, of a text, a byte for its length and then its bytes.
+// byte first; or, of a text, a byte for its length and then its bytes; or, of a sheet, its bytes alone.
 
 // An answer that is no text. Where there is no second number, its width is 0.
 pub struct Bytes {
@@ -86,6 +86,11 @@ fn begins_with_number(recorded: &[u8], width: usize, number: u64) -> bool {
 pub(crate) fn is_text_at(recorded: &[u8], at: usize, text: &[u8], len: usize) -> bool {
     are_at(recorded, at, number(1, len as u64))
         && begins_with_letters(behind(recorded, at, 2), text, len)
+}
+
+// Whether the first `len` bytes of `run` are recorded at `at`, with no length before them.
+pub(crate) fn is_run_at(recorded: &[u8], at: usize, run: &[u8], len: usize) -> bool {
+    are_at(recorded, at, number(0, 0)) && begins_with_letters(behind(recorded, at, 1), run, len)
 }
 
 fn begins_with_letters(recorded: &[u8], text: &[u8], len: usize) -> bool {

@@ -1,4 +1,4 @@
-// The readings of a library, by their numbers: names.rt has their names.
+// The readings of a library and its sheet, by their numbers: names.rt has their names.
 use crate::bytes;
 use crate::compare::same;
 use crate::cursors;
@@ -7,20 +7,26 @@ use crate::header;
 use crate::kinds;
 use crate::members;
 use crate::progress::Progress;
+use crate::sheets;
 use crate::tables;
 use crate::words;
 use typelib::TypeLib;
 
 // The number behind the last reading's. The first has the number behind the kinds of record.
-pub const END: u8 = 76;
+pub const END: u8 = 77;
+
+const SHEET: u8 = 63;
 
 // Compares all answers to a question about the library in the lent bytes. Of one that is refused
-// nothing but that can be asked; what is left uncompared counts as a difference at the end.
+// nothing but that and the sheet can be asked; what is left uncompared counts as a difference at the end.
 pub(crate) fn replay(lent: &[u8], recorded: &[u8], item: Item, before: Progress) -> Progress {
     if item.kind < kinds::COUNT {
         return before;
     }
     let reading = item.kind - kinds::COUNT;
+    if reading == SHEET {
+        return sheets::replay(lent, recorded, item.first, before);
+    }
     let parsed = TypeLib::parse(lent);
     if reading == 0 {
         return same(recorded, before, bytes::refusal(parsed.number, 0, 0));

@@ -1,5 +1,5 @@
-// Asks the crates `records` and `typelib` the recorded questions, and compares their answers with
-// those of the reference, the Rust crate.
+// Asks the crates `records`, `typelib` and `sheet` the recorded questions, and compares their answers
+// with those of the reference, the Rust crate.
 //
 // Two files in the working folder hold the questions and the reference's answers: `records` those
 // about single records, `libraries` those about whole libraries. compare/oracle/src/bin/record makes
@@ -17,6 +17,7 @@ mod members;
 mod names;
 mod progress;
 mod report;
+mod sheets;
 mod steps;
 mod tables;
 mod words;

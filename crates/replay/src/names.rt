@@ -29,7 +29,7 @@ pub(crate) fn print_kind(kind: u8) {
         print_name(
             b"typeinfo_offset typeinfo member_name declared_counts func_memid var_memid \
             func_name_offset var_name_offset func_name var_name typeinfos funcs vars params guids \
-            names imports imp_files impl_types walk ",
+            names imports imp_files impl_types walk sheet ",
             kind - 56,
         );
     }

@@ -1,8 +1,9 @@
 //! Document 01's edges. What it says of each stands here, and the reference must say the same.
 //!
-//! Its first refusal, of more than 16,777,216 bytes, is in no file: the bytes would be too many.
+//! Its refusals of more than 16,777,216 bytes and of more than 65,535 types are in no file: the bytes would
+//! be too many.
 
-use msft_typelib::library::Ask;
+use msft_typelib::library::{Ask, TYPE_DESCRIPTOR_SEGMENT, TYPEINFO_SEGMENT};
 
 use crate::libraries::Library;
 use crate::made_libraries::{Made, TYPEINFO_SIZE, func, typeinfo};
@@ -32,8 +33,16 @@ const REFERENCES: [(u32, &[u8]); 4] = [
     (0x0100_0064, &[0, 1, 1, 0, 0, 0, 0, 0, 0, 0]),
 ];
 
+/// The answers for the sheet of such a library, each behind a 0: how many bytes it has, and these: type
+/// count, body length 10, two words, no GUID, no name.
+const EMPTY_SHEET: [&[u8]; 2] = [
+    &[0, 18, 0, 0, 0, 0, 0, 0, 0],
+    &[0, 0, 0, 0, 0, 10, 0, 0, 0, 0, 0, 0, 0, 0, 0, 0, 0, 0, 0],
+];
+
 pub fn libraries() -> Vec<Library> {
     let mut libraries = parsed();
+    libraries.extend(sheets());
     libraries.extend(of_words(Made::new(&[]), Ask::ConstValue, &CONSTANTS));
     libraries.extend(of_words(
         Made::new(&[0, 0]),
@@ -44,7 +53,7 @@ pub fn libraries() -> Vec<Library> {
     libraries
 }
 
-/// What `parse` replies to the first bytes of a library whose other bytes are zero.
+/// What `parse` and a sheet reply to the first bytes of a library whose other bytes are zero.
 fn parsed() -> Vec<Library> {
     let plain = start(0, 0);
     let with_help = start(HELP_DLL, 0);
@@ -60,9 +69,49 @@ fn parsed() -> Vec<Library> {
     ]
     .map(|(bytes, len, number)| {
         let library = Library::new(bytes[..len].to_vec(), Vec::new());
-        expect(library, Ask::Parse, &[&[number]])
+        let library = expect(library, Ask::Parse, &[&[number]]);
+        match number {
+            0 => expect(library, Ask::Sheet, &EMPTY_SHEET),
+            _ => expect(library, Ask::Sheet, &[&[number]]),
+        }
     })
     .into()
+}
+
+/// Refusals of a sheet, and a sheet that lies beside one: of its 75 bytes the tree has 34.
+fn sheets() -> [Library; 3] {
+    [
+        (short_typeinfo(), [8].as_slice()),
+        (nested(32), &[0, 75, 0, 0, 0, 0, 0, 0, 0]),
+        (nested(33), &[11]),
+    ]
+    .map(|(bytes, answer)| expect(Library::asked(bytes, Vec::new()), Ask::Sheet, &[answer]))
+}
+
+/// A library whose one typeinfo has a byte too few.
+fn short_typeinfo() -> Vec<u8> {
+    let mut made = Made::new(&[0]);
+    made.segment(TYPEINFO_SEGMENT, &typeinfo(3, 0, 0, 0, 0)[1..]);
+    made.bytes()
+}
+
+/// A library with an alias whose tree nests that many descriptions: pointers, and a base inside them.
+fn nested(descriptions: u32) -> Vec<u8> {
+    const POINTER: u32 = 26;
+    let mut made = Made::new(&[0]);
+    made.segment(TYPEINFO_SEGMENT, &typeinfo(6, 0, 0, 0, 0));
+    let pointers = descriptions - 1;
+    let words = (1..=pointers).flat_map(|number| {
+        let inside = if number == pointers {
+            0x8000_0003
+        } else {
+            8 * number
+        };
+        [POINTER, inside]
+    });
+    let bytes: Vec<u8> = words.flat_map(u32::to_le_bytes).collect();
+    made.segment(TYPE_DESCRIPTOR_SEGMENT, &bytes);
+    made.bytes()
 }
 
 /// A header with the magic, those flags and that count, and zeros behind it.

@@ -28,8 +28,9 @@ impl Library {
         Library::asked(bytes, asked)
     }
 
-    /// Only those questions, each once.
+    /// Only those questions, each once, and the sheet, which every library is asked for.
     pub fn asked(bytes: Vec<u8>, mut asked: Vec<Question>) -> Self {
+        asked.extend(questions::of_sheet(&bytes));
         let mut seen = HashSet::new();
         asked.retain(|question| seen.insert(*question));
         let asked = asked

@@ -8,6 +8,7 @@ use msft_typelib::library::{
     ARRAY_DESCRIPTOR_SEGMENT, Ask, GUID_SEGMENT, IMPORT_SEGMENT, Question,
 };
 use msft_typelib::library::{CONSTANT_SEGMENT, IMPORT_FILE_SEGMENT, NAME_SEGMENT, STRING_SEGMENT};
+use msft_typelib::sheet::{PROGRAM_BYTES, sheet};
 use msft_typelib::{FuncRecord, TypeDescription, TypeInfoEntry, TypeLib};
 
 /// The most words that one reading is asked for in a library, beside the edges.
@@ -33,6 +34,19 @@ pub fn question(ask: Ask, numbers: [u32; 3]) -> Question {
 /// A reading of a word.
 pub fn of_word(ask: Ask, word: u32) -> Question {
     question(ask, [word, 0, 0])
+}
+
+/// The sheet in an output that has room for any of ours, in one as long as the sheet, and in one that is
+/// a byte shorter.
+pub fn of_sheet(data: &[u8]) -> Vec<Question> {
+    let mut rooms = vec![PROGRAM_BYTES];
+    if let Ok(sheet) = sheet(data, PROGRAM_BYTES) {
+        rooms.extend([sheet.len(), sheet.len() - 1]);
+    }
+    rooms
+        .into_iter()
+        .map(|room| of_word(Ask::Sheet, room as u32))
+        .collect()
 }
 
 /// The questions about typeinfos and their members.

@@ -134,6 +134,7 @@ fn refusals_of(ask: Ask) -> &'static [u8] {
         Ask::Typeinfo => &[6, 7, 8],
         Ask::Typeinfos => &[6, 7, 8, 9],
         Ask::Walk => &[9, 10],
+        Ask::Sheet => &[2, 3, 4, 5, 6, 7, 8, 10, 11, 12],
         Ask::Table => &[],
         _ if ask < Ask::Segment => &[],
         _ => &[9],
