@@ -1,0 +1,138 @@
+-- The bytes of each kind of value, as a call lays them into its output: numbers at their own widths, little-endian, in
+-- document 01's order; a place, a length, an index and a cursor's numbers in eight bytes each. Assumes nothing.
+use mathlib.Core.List.{List, [], _∷_, _++_}
+use Prim.Native.Nat.{ℕ}
+use mir.Syntax.{w32}
+use mir.Val.{ofZ}
+use Rattle.records.specs.Answer.{Answer, value, refused, map}
+use Rattle.records.specs.Types.{vtOf}
+use Rattle.records.specs.declared.answer.Place.{Place}
+use Rattle.records.specs.declared.arraydesc.SafeArrayBound.{SafeArrayBound}
+use Rattle.records.specs.declared.name.NameEntry.{NameEntry}
+use Rattle.records.specs.declared.types.ConstValue.{ConstValue}
+use Rattle.records.specs.declared.types.TypeDescription.{TypeDescription}
+use Rattle.records.specs.declared.types.TypeDescription.the-variants as type
+use Rattle.typelib.specs.declared.descriptors.WordPair.{WordPair}
+use Rattle.typelib.specs.declared.impltypes.ImplTypeCursor.{ImplTypeCursor}
+use Rattle.typelib.specs.declared.iterators.FuncCursor.{FuncCursor}
+use Rattle.typelib.specs.declared.iterators.VarCursor.{VarCursor}
+use Rattle.typelib.specs.declared.iterators.ParamCursor.{ParamCursor}
+use Rattle.typelib.specs.declared.iterators.GuidCursor.{GuidCursor}
+use Rattle.typelib.specs.declared.iterators.ImportCursor.{ImportCursor}
+use Rattle.typelib.specs.declared.iterators.ImpFileCursor.{ImpFileCursor}
+use Rattle.typelib.specs.declared.iterators.NameCursor.{NameCursor}
+use Rattle.typelib.specs.declared.iterators.TypeInfoCursor.{TypeInfoCursor}
+use Rattle.typelib.specs.Cursors.{Step, yielded, ended, NameYield, entry, over}
+use Rattle.typelib.specs.References.{Resolved, internal, external}
+use Rattle.description.specs.Format.{leBytes}
+use Rattle.description.specs.Description.{Shape, shapeOf}
+use Rattle.describe.specs.Constants.{Content, contentOf, numberIn, placeIn}
+
+-- each number in eight bytes
+abbrev pub eights : List ℕ → List ℕ
+eights [] = []
+eights (n ∷ ns) = leBytes 8 n ++ eights ns
+
+-- ---- numbers and places
+
+abbrev pub size : ℕ → List ℕ
+size n = eights (n ∷ [])
+
+abbrev pub place : Place → List ℕ
+place p = eights (p .at ∷ p .len ∷ [])
+
+abbrev pub bound : SafeArrayBound → List ℕ
+bound b = leBytes 4 (b .elements) ++ leBytes 4 (ofZ w32 (b .lower))
+
+abbrev pub pair : WordPair → List ℕ
+pair w = leBytes 4 (w .first) ++ leBytes 4 (w .second)
+
+-- ---- descriptions of types, references and constants, each behind a code
+
+-- the code bytes are those of the sheet's trees
+abbrev pub description : TypeDescription → List ℕ
+description (type.Base code) = 1 ∷ leBytes 2 code
+description (type.Pointer field) = 2 ∷ leBytes 4 (ofZ w32 field)
+description (type.SafeArray field) = 3 ∷ leBytes 4 (ofZ w32 field)
+description (type.CArray array) = 4 ∷ eights (array .at ∷ array .len ∷ [])
+description (type.UserDefined href) = 5 ∷ leBytes 4 (ofZ w32 href)
+
+-- 0, or 1 and the place
+abbrev pub optPlace : Answer Place → List ℕ
+optPlace (value p) = 1 ∷ place p
+optPlace (refused n) = 0 ∷ []
+
+-- 1 and the index; 2, the import record and the file that it names, if that is there
+abbrev pub reference : Resolved → List ℕ
+reference (internal index) = 1 ∷ size index
+reference (external info file) = 2 ∷ (place info ++ optPlace file)
+
+-- the place, where there is one
+abbrev pub span : Answer Place → List ℕ
+span (value p) = place p
+span (refused n) = []
+
+-- the place of a decimal's bytes; a text's behind 1, and 0 for the null text; a number at the width that its shape has
+abbrev pub contentBytes : Shape → Content → List ℕ
+contentBytes Shape.empty c = []
+contentBytes (Shape.number w) c = leBytes w (numberIn c)
+contentBytes Shape.bit c = leBytes 1 (numberIn c)
+contentBytes (Shape.octets k) c = span (placeIn c)
+contentBytes Shape.text c = optPlace (placeIn c)
+
+-- the code of the case that was read, and the value
+unfoldable pub constant : ConstValue → List ℕ
+constant v = leBytes 2 (vtOf v) ++ contentBytes (shapeOf (vtOf v)) (contentOf v)
+
+-- ---- cursors
+
+abbrev pub funcCursor : FuncCursor → List ℕ
+funcCursor c = c .pos ∷ c .end ∷ c .remaining ∷ []
+
+abbrev pub varCursor : VarCursor → List ℕ
+varCursor c = c .pos ∷ c .end ∷ c .remaining ∷ []
+
+abbrev pub paramCursor : ParamCursor → List ℕ
+paramCursor c = c .pos ∷ c .end ∷ c .remaining ∷ []
+
+abbrev pub guidCursor : GuidCursor → List ℕ
+guidCursor c = c .pos ∷ c .end ∷ []
+
+abbrev pub importCursor : ImportCursor → List ℕ
+importCursor c = c .pos ∷ c .end ∷ []
+
+abbrev pub impFileCursor : ImpFileCursor → List ℕ
+impFileCursor c = c .pos ∷ c .end ∷ []
+
+abbrev pub nameCursor : NameCursor → List ℕ
+nameCursor c = c .pos ∷ c .end ∷ c .start ∷ []
+
+abbrev pub typeinfoCursor : TypeInfoCursor → List ℕ
+typeinfoCursor c = c .index ∷ []
+
+-- the cursor alone
+abbrev pub cursor : {C : Type 0} → (C → List ℕ) → C → List ℕ
+cursor numbers c = eights (numbers c)
+
+-- a step lays the record's place and the next cursor
+abbrev pub step : {C : Type 0} → (C → List ℕ) → Step C → Answer (List ℕ)
+step numbers (yielded p c) = value (eights (p .at ∷ p .len ∷ numbers c))
+step numbers (ended n c) = refused n
+
+-- the next offset of a chain is a 32-bit pattern
+abbrev pub chainCursor : ImplTypeCursor → List ℕ
+chainCursor c = eights (c .table .at ∷ c .table .len ∷ []) ++ leBytes 4 (c .next)
+
+abbrev pub chainStep : Step ImplTypeCursor → Answer (List ℕ)
+chainStep (yielded p c) = value (eights (p .at ∷ p .len ∷ c .table .at ∷ c .table .len ∷ []) ++ leBytes 4 (c .next))
+chainStep (ended n c) = refused n
+
+-- a name's entry: its offset, the place of its text, and the numbers before the text
+abbrev pub nameEntry : NameEntry → List ℕ
+nameEntry e =
+    eights (e .offset ∷ e .text .at ∷ e .text .len ∷ [])
+    ++ (leBytes 4 (ofZ w32 (e .hreftype)) ++ (leBytes 4 (ofZ w32 (e .«next_hash»)) ++ (leBytes 1 (e .flags) ++ leBytes 2 (e .hashcode))))
+
+abbrev pub nameStep : NameYield → Answer (List ℕ)
+nameStep (entry e c) = value (nameEntry e ++ cursor nameCursor c)
+nameStep (over n c) = refused n

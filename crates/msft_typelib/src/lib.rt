@@ -1,0 +1,4 @@
+// The exports for C.
+mod reply;
+mod row;
+mod typeinfo;
