@@ -1,4 +1,5 @@
 // The exports for C.
 mod reply;
 mod row;
+mod rows;
 mod typeinfo;
