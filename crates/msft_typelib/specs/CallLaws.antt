@@ -1,5 +1,6 @@
 -- The laws of replies. Assumes nothing.
 use mathlib.Core.Path.{_≡_, refl, sym, ap, _∙_}
+use mathlib.Core.List.{List}
 use Prim.Native.Nat.{ℕ, zero, suc, _<_, _^_}
 use native.Mathlib.Omega.{arith}
 use lib.IntN.{ℤ, pos, negℤ}
@@ -8,7 +9,9 @@ use mir.Syntax.{Width, w64}
 use mir.Val.{SFits, hbits, toZ, ofZ}
 use mir.ValLaws.{toZ-ofZ, toZ-pos}
 use Rattle.records.specs.Answer.{Answer, value, refused}
-use Rattle.msft_typelib.specs.Call.{after, reply}
+use Rattle.typelib.specs.declared.Parsed.{Parsed}
+use Rattle.typelib.specs.Header.{parseOf, parsed}
+use Rattle.msft_typelib.specs.Call.{refusalOf, libraryIn, after, reply}
 
 -- ---- a reply is an i64, which the machine reads back from its bits
 
@@ -25,6 +28,16 @@ pos-back n h = rw (toZ-pos w64 n h) (toZ-ofZ w64 (pos n) (record { sfits = h }))
 -- the bits of a signed number that a call took by its bits
 pub back : (w : Width) (x : ℤ) {n : ℕ} → mag x < 2 ^ hbits w → n ≡ ofZ w (toZ w (ofZ w x)) → n ≡ ofZ w x
 back w x h e = e ∙ ap (ofZ w) (toZ-ofZ w x (record { sfits = h }))
+
+-- ---- the library
+
+pub number-is : (s : List ℕ) (p : Parsed) → p ≡ parsed (parseOf s) → refusalOf s ≡ p .number
+unfolding refusalOf
+number-is s p e = sym (ap (λ p. p .number) e)
+
+pub library-is : (s : List ℕ) (p : Parsed) → p ≡ parsed (parseOf s) → libraryIn s ≡ p .lib
+unfolding libraryIn
+library-is s p e = sym (ap (λ p. p .lib) e)
 
 -- ---- what was refused before
 

@@ -133,6 +133,6 @@ nameEntry e =
     eights (e .offset ∷ e .text .at ∷ e .text .len ∷ [])
     ++ (leBytes 4 (ofZ w32 (e .hreftype)) ++ (leBytes 4 (ofZ w32 (e .«next_hash»)) ++ (leBytes 1 (e .flags) ++ leBytes 2 (e .hashcode))))
 
-abbrev pub nameStep : NameYield → Answer (List ℕ)
-nameStep (entry e c) = value (nameEntry e ++ cursor nameCursor c)
-nameStep (over n c) = refused n
+abbrev pub entryStep : NameYield → Answer (List ℕ)
+entryStep (entry e c) = value (nameEntry e ++ cursor nameCursor c)
+entryStep (over n c) = refused n

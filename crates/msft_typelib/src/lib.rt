@@ -1,5 +1,24 @@
-// The exports for C.
+// The exports for C: each reading of a library as a function on numbers and byte slices.
+//
+// A call that takes the library begins with `parse`. A reading of one number of at most 32 bits replies
+// it; any other lays its values into the output, at their own widths and little-endian, and replies how
+// many bytes those are. A refusal replies minus its number and writes nothing; an output that is too
+// short is 12, behind all other refusals.
+mod arraydesc;
+mod descriptors;
+mod func;
+mod guid;
+mod guidentry;
+mod header;
+mod impfile;
+mod impinfo;
+mod iterators;
+mod param;
+mod refrecord;
 mod reply;
 mod row;
 mod rows;
+mod tables;
 mod typeinfo;
+mod typeinfos;
+mod var;

@@ -12,6 +12,7 @@ use records::answer::U32Answer;
 use records::typeinfo::KindAnswer;
 use records::types::TypeKind;
 use typelib::TypeLib;
+use typelib::typeinfos::OffsetAnswer;
 ghost use mathlib.Core.Bool.{cond};
 ghost use mathlib.Core.Path.{_≡_};
 ghost use lib.IntN.{pos, negℤ};
@@ -19,6 +20,7 @@ ghost use mir.Syntax.{w16, w64};
 ghost use mir.Val.{toZ, ofZ};
 ghost use Rattle.records.specs.Answer.{map};
 ghost use Rattle.records.specs.Told.{toldBool, toldI16, toldI32, toldKind, toldU16, toldU32, toldU8};
+ghost use Rattle.typelib.specs.Told.{toldOffset};
 ghost use Rattle.msft_typelib.specs.Call.{refusalOf, after, reply, bits16, bits32, truth, kindNumber, outcome, laid};
 ghost use Rattle.msft_typelib.specs.LayLaws.{startOf};
 ghost use Rattle.msft_typelib.specs.Told.{toldRow};
@@ -122,6 +124,18 @@ pub fn of_kind(number: u8, a: KindAnswer) -> i64
     match a {
         KindAnswer::Value(kind) => kind_number(kind) as i64,
         KindAnswer::Refused(n) => minus(n),
+    }
+}
+
+pub fn of_offset(number: u8, a: OffsetAnswer) -> i64
+    ensures { λ r. ⌜ toZ w64 (ofZ w64 r) ≡ reply (after number (bits32 (toldOffset a))) ⌝ }
+{
+    if number != 0 {
+        return minus(number);
+    }
+    match a {
+        OffsetAnswer::Value(x) => util::unsigned32(x.0) as i64,
+        OffsetAnswer::Refused(n) => minus(n),
     }
 }
 

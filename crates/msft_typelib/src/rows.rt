@@ -45,7 +45,7 @@ ghost use Rattle.typelib.specs.Chain.{toldImplTypeStep, toldImplTypes, toldWalk
 ghost use Rattle.typelib.specs.Cursors.{yielded};
 ghost use Rattle.typelib.specs.Told.{toldArrayDesc, toldConst, toldDescription, toldFuncStep, toldFuncs, toldGuidStep, toldImpFile, toldImpFileStep, toldImportStep, toldIndex, toldNameStep, toldPair, toldParamStep, toldParams, toldHreftype, toldResolved, toldTypeInfo, toldTypeInfoStep, toldVarStep, toldVars};
 ghost use Rattle.msft_typelib.specs.Told.{toldRow};
-ghost use Rattle.msft_typelib.specs.Values.{bound, chainCursor, chainStep, constant, cursor, description, funcCursor, guidCursor, impFileCursor, importCursor, nameCursor, nameStep, pair, paramCursor, place, reference, size, step, typeinfoCursor, varCursor};
+ghost use Rattle.msft_typelib.specs.Values.{bound, chainCursor, chainStep, constant, cursor, description, funcCursor, guidCursor, impFileCursor, importCursor, nameCursor, entryStep, pair, paramCursor, place, reference, size, step, typeinfoCursor, varCursor};
 
 pub fn of_place(a: PlaceAnswer) -> Row
     ensures { λ r. ⌜ toldRow r ≡ map place (toldPlace a) ⌝ }
@@ -405,7 +405,7 @@ fn link(p: RefRecord, c: ImplTypeCursor) -> Row
 }
 
 pub fn of_name_step(a: NameStep) -> Row
-    ensures { λ r. ⌜ toldRow r ≡ nameStep (toldNameStep a) ⌝ }
+    ensures { λ r. ⌜ toldRow r ≡ entryStep (toldNameStep a) ⌝ }
 {
     match a {
         NameStep::Record(e, c) => Row::Entry(e, c),

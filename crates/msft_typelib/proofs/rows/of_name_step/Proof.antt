@@ -1,4 +1,4 @@
-use Rattle.msft_typelib.specs.Values.{nameStep}
+use Rattle.msft_typelib.specs.Values.{entryStep}
 use Rattle.typelib.specs.Told.{toldNameStep}
 use Rattle.msft_typelib.specs.LayLaws.{shown}
 use borrow.Author.Needs.{needs}
@@ -17,11 +17,11 @@ enum-known-a-2 c = search needs
 
 -- src/rows.rt:407:1
 returns : tie.Need-returns
-returns c = shown (λ a. nameStep (toldNameStep a)) (c .before .a .given .1)
+returns c = shown (λ a. entryStep (toldNameStep a)) (c .before .a .given .1)
 
 -- src/rows.rt:407:1
 returns-2 : tie.Need-returns-2
-returns-2 c = shown (λ a. nameStep (toldNameStep a)) (c .before .a2 .given .1)
+returns-2 c = shown (λ a. entryStep (toldNameStep a)) (c .before .a2 .given .1)
 
 pub of-name-step-spec : {M : Type 1} → statement M
 of-name-step-spec = tie.close (tie.spec enum-known-a enum-known-a-2 returns returns-2)

@@ -1,0 +1,10 @@
+use borrow.Author.Needs.{needs}
+use Rattle.msft_typelib.proofs.arraydesc.msft_arraydesc_element_type.Statement.{statement}
+use Rattle.msft_typelib.proofs.arraydesc.msft_arraydesc_element_type.Tie as tie
+
+pub msft-arraydesc-element-type-spec : {M : Type 1} → statement M
+msft-arraydesc-element-type-spec =
+    tie.close
+    (tie.spec
+    (λ c κs. search needs) (λ c κs. search needs) (λ c κs. search needs)
+    (λ c. cc))

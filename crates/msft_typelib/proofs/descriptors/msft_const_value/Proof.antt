@@ -1,0 +1,13 @@
+use mir.Syntax.{w32}
+use mir.ValLaws.{toZ-ofZ}
+use Rattle.msft_typelib.specs.CallLaws.{library-is, number-is}
+use borrow.Author.Needs.{needs}
+use Rattle.msft_typelib.proofs.descriptors.msft_const_value.Statement.{statement}
+use Rattle.msft_typelib.proofs.descriptors.msft_const_value.Tie as tie
+
+pub msft-const-value-spec : {M : Type 1} → statement M
+msft-const-value-spec =
+    tie.close
+    (tie.spec
+    (λ c κs. search needs) (λ c κs. search needs) (λ c κs. search needs) (λ c κs. search needs) (λ c. search needs)
+    (λ c. let h = rw (toZ-ofZ w32 (c .before .before .before .before .before .before .before .before .before .before .args .word) (c .before .before .before .before .before .before .before .before .before .before .fits .word)) at (c .before .before .before .before .before .const-value .ensures) in rw (library-is (c .before .before .before .before .before .before .before .before .before .before .args .s .now) (c .before .before .before .before .before .before .before .parse .result) (c .before .before .before .before .before .before .before .parse .ensures), number-is (c .before .before .before .before .before .before .before .before .before .before .args .s .now) (c .before .before .before .before .before .before .before .parse .result) (c .before .before .before .before .before .before .before .parse .ensures)) (cc)))

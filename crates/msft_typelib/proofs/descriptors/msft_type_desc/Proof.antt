@@ -1,0 +1,13 @@
+use mir.Syntax.{w32}
+use mir.ValLaws.{toZ-ofZ}
+use Rattle.msft_typelib.specs.CallLaws.{library-is, number-is}
+use borrow.Author.Needs.{needs}
+use Rattle.msft_typelib.proofs.descriptors.msft_type_desc.Statement.{statement}
+use Rattle.msft_typelib.proofs.descriptors.msft_type_desc.Tie as tie
+
+pub msft-type-desc-spec : {M : Type 1} → statement M
+msft-type-desc-spec =
+    tie.close
+    (tie.spec
+    (λ c κs. search needs) (λ c κs. search needs) (λ c κs. search needs) (λ c κs. search needs) (λ c. search needs)
+    (λ c. let h = rw (toZ-ofZ w32 (c .before .before .before .before .before .before .before .before .before .before .args .offset) (c .before .before .before .before .before .before .before .before .before .before .fits .offset)) at (c .before .before .before .before .before .type-desc .ensures) in rw (library-is (c .before .before .before .before .before .before .before .before .before .before .args .s .now) (c .before .before .before .before .before .before .before .parse .result) (c .before .before .before .before .before .before .before .parse .ensures), number-is (c .before .before .before .before .before .before .before .before .before .before .args .s .now) (c .before .before .before .before .before .before .before .parse .result) (c .before .before .before .before .before .before .before .parse .ensures)) (cc)))

@@ -1,0 +1,10 @@
+use borrow.Author.Needs.{needs}
+use Rattle.msft_typelib.proofs.func.msft_func_cust_data_offset.Statement.{statement}
+use Rattle.msft_typelib.proofs.func.msft_func_cust_data_offset.Tie as tie
+
+pub msft-func-cust-data-offset-spec : {M : Type 1} → statement M
+msft-func-cust-data-offset-spec =
+    tie.close
+    (tie.spec
+    (λ c κs. search needs) (λ c κs. search needs) (λ c κs. search needs)
+    (λ c. cc))

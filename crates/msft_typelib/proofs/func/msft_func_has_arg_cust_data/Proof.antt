@@ -1,0 +1,10 @@
+use borrow.Author.Needs.{needs}
+use Rattle.msft_typelib.proofs.func.msft_func_has_arg_cust_data.Statement.{statement}
+use Rattle.msft_typelib.proofs.func.msft_func_has_arg_cust_data.Tie as tie
+
+pub msft-func-has-arg-cust-data-spec : {M : Type 1} → statement M
+msft-func-has-arg-cust-data-spec =
+    tie.close
+    (tie.spec
+    (λ c κs. search needs) (λ c κs. search needs) (λ c κs. search needs)
+    (λ c. cc))

@@ -1,0 +1,10 @@
+use borrow.Author.Needs.{needs}
+use Rattle.msft_typelib.proofs.func.msft_func_has_default_values.Statement.{statement}
+use Rattle.msft_typelib.proofs.func.msft_func_has_default_values.Tie as tie
+
+pub msft-func-has-default-values-spec : {M : Type 1} → statement M
+msft-func-has-default-values-spec =
+    tie.close
+    (tie.spec
+    (λ c κs. search needs) (λ c κs. search needs) (λ c κs. search needs)
+    (λ c. cc))

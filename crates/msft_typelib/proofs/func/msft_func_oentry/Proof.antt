@@ -1,0 +1,10 @@
+use borrow.Author.Needs.{needs}
+use Rattle.msft_typelib.proofs.func.msft_func_oentry.Statement.{statement}
+use Rattle.msft_typelib.proofs.func.msft_func_oentry.Tie as tie
+
+pub msft-func-oentry-spec : {M : Type 1} → statement M
+msft-func-oentry-spec =
+    tie.close
+    (tie.spec
+    (λ c κs. search needs) (λ c κs. search needs) (λ c κs. search needs)
+    (λ c. cc))

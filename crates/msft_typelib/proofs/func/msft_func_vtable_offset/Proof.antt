@@ -1,0 +1,10 @@
+use borrow.Author.Needs.{needs}
+use Rattle.msft_typelib.proofs.func.msft_func_vtable_offset.Statement.{statement}
+use Rattle.msft_typelib.proofs.func.msft_func_vtable_offset.Tie as tie
+
+pub msft-func-vtable-offset-spec : {M : Type 1} → statement M
+msft-func-vtable-offset-spec =
+    tie.close
+    (tie.spec
+    (λ c κs. search needs) (λ c κs. search needs) (λ c κs. search needs)
+    (λ c. cc))

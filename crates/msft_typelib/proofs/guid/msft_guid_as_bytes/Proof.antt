@@ -1,0 +1,10 @@
+use borrow.Author.Needs.{needs}
+use Rattle.msft_typelib.proofs.guid.msft_guid_as_bytes.Statement.{statement}
+use Rattle.msft_typelib.proofs.guid.msft_guid_as_bytes.Tie as tie
+
+pub msft-guid-as-bytes-spec : {M : Type 1} → statement M
+msft-guid-as-bytes-spec =
+    tie.close
+    (tie.spec
+    (λ c κs. search needs) (λ c κs. search needs) (λ c κs. search needs) (λ c κs. search needs) (λ c. search needs)
+    (λ c. cc))

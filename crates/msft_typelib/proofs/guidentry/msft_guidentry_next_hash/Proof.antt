@@ -1,0 +1,10 @@
+use borrow.Author.Needs.{needs}
+use Rattle.msft_typelib.proofs.guidentry.msft_guidentry_next_hash.Statement.{statement}
+use Rattle.msft_typelib.proofs.guidentry.msft_guidentry_next_hash.Tie as tie
+
+pub msft-guidentry-next-hash-spec : {M : Type 1} → statement M
+msft-guidentry-next-hash-spec =
+    tie.close
+    (tie.spec
+    (λ c κs. search needs) (λ c κs. search needs) (λ c κs. search needs)
+    (λ c. cc))

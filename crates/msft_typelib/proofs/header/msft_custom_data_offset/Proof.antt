@@ -1,0 +1,11 @@
+use Rattle.msft_typelib.specs.CallLaws.{number-is}
+use borrow.Author.Needs.{needs}
+use Rattle.msft_typelib.proofs.header.msft_custom_data_offset.Statement.{statement}
+use Rattle.msft_typelib.proofs.header.msft_custom_data_offset.Tie as tie
+
+pub msft-custom-data-offset-spec : {M : Type 1} → statement M
+msft-custom-data-offset-spec =
+    tie.close
+    (tie.spec
+    (λ c κs. search needs) (λ c κs. search needs) (λ c κs. search needs)
+    (λ c. rw (number-is (c .before .before .before .before .before .args .s .now) (c .before .before .before .parse .result) (c .before .before .before .parse .ensures)) (cc)))

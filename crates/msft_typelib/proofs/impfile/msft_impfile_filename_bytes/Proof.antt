@@ -1,0 +1,10 @@
+use borrow.Author.Needs.{needs}
+use Rattle.msft_typelib.proofs.impfile.msft_impfile_filename_bytes.Statement.{statement}
+use Rattle.msft_typelib.proofs.impfile.msft_impfile_filename_bytes.Tie as tie
+
+pub msft-impfile-filename-bytes-spec : {M : Type 1} → statement M
+msft-impfile-filename-bytes-spec =
+    tie.close
+    (tie.spec
+    (λ c κs. search needs) (λ c κs. search needs) (λ c κs. search needs) (λ c κs. search needs) (λ c. search needs)
+    (λ c. cc))

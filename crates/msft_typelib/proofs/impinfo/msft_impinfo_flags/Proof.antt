@@ -1,0 +1,10 @@
+use borrow.Author.Needs.{needs}
+use Rattle.msft_typelib.proofs.impinfo.msft_impinfo_flags.Statement.{statement}
+use Rattle.msft_typelib.proofs.impinfo.msft_impinfo_flags.Tie as tie
+
+pub msft-impinfo-flags-spec : {M : Type 1} → statement M
+msft-impinfo-flags-spec =
+    tie.close
+    (tie.spec
+    (λ c κs. search needs) (λ c κs. search needs) (λ c κs. search needs)
+    (λ c. cc))

@@ -1,0 +1,10 @@
+use borrow.Author.Needs.{needs}
+use Rattle.msft_typelib.proofs.iterators.msft_param_step.Statement.{statement}
+use Rattle.msft_typelib.proofs.iterators.msft_param_step.Tie as tie
+
+pub msft-param-step-spec : {M : Type 1} → statement M
+msft-param-step-spec =
+    tie.close
+    (tie.spec
+    (λ c κs. search needs) (λ c κs. search needs) (λ c κs. search needs) (λ c κs. search needs) (λ c. search needs)
+    (λ c. cc))

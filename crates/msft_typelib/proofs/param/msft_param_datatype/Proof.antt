@@ -1,0 +1,10 @@
+use borrow.Author.Needs.{needs}
+use Rattle.msft_typelib.proofs.param.msft_param_datatype.Statement.{statement}
+use Rattle.msft_typelib.proofs.param.msft_param_datatype.Tie as tie
+
+pub msft-param-datatype-spec : {M : Type 1} → statement M
+msft-param-datatype-spec =
+    tie.close
+    (tie.spec
+    (λ c κs. search needs) (λ c κs. search needs) (λ c κs. search needs)
+    (λ c. cc))

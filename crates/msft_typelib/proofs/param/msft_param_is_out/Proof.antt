@@ -1,0 +1,10 @@
+use borrow.Author.Needs.{needs}
+use Rattle.msft_typelib.proofs.param.msft_param_is_out.Statement.{statement}
+use Rattle.msft_typelib.proofs.param.msft_param_is_out.Tie as tie
+
+pub msft-param-is-out-spec : {M : Type 1} → statement M
+msft-param-is-out-spec =
+    tie.close
+    (tie.spec
+    (λ c κs. search needs) (λ c κs. search needs) (λ c κs. search needs)
+    (λ c. cc))

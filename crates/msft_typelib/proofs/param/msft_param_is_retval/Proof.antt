@@ -1,0 +1,10 @@
+use borrow.Author.Needs.{needs}
+use Rattle.msft_typelib.proofs.param.msft_param_is_retval.Statement.{statement}
+use Rattle.msft_typelib.proofs.param.msft_param_is_retval.Tie as tie
+
+pub msft-param-is-retval-spec : {M : Type 1} → statement M
+msft-param-is-retval-spec =
+    tie.close
+    (tie.spec
+    (λ c κs. search needs) (λ c κs. search needs) (λ c κs. search needs)
+    (λ c. cc))

@@ -1,0 +1,10 @@
+use borrow.Author.Needs.{needs}
+use Rattle.msft_typelib.proofs.refrecord.msft_ref_is_source.Statement.{statement}
+use Rattle.msft_typelib.proofs.refrecord.msft_ref_is_source.Tie as tie
+
+pub msft-ref-is-source-spec : {M : Type 1} → statement M
+msft-ref-is-source-spec =
+    tie.close
+    (tie.spec
+    (λ c κs. search needs) (λ c κs. search needs) (λ c κs. search needs)
+    (λ c. cc))

@@ -1,0 +1,10 @@
+use borrow.Author.Needs.{needs}
+use Rattle.msft_typelib.proofs.typeinfo.msft_typeinfo_as_bytes.Statement.{statement}
+use Rattle.msft_typelib.proofs.typeinfo.msft_typeinfo_as_bytes.Tie as tie
+
+pub msft-typeinfo-as-bytes-spec : {M : Type 1} → statement M
+msft-typeinfo-as-bytes-spec =
+    tie.close
+    (tie.spec
+    (λ c κs. search needs) (λ c κs. search needs) (λ c κs. search needs) (λ c κs. search needs) (λ c. search needs)
+    (λ c. cc))

@@ -1,0 +1,10 @@
+use borrow.Author.Needs.{needs}
+use Rattle.msft_typelib.proofs.typeinfo.msft_typeinfo_cb_size_vft.Statement.{statement}
+use Rattle.msft_typelib.proofs.typeinfo.msft_typeinfo_cb_size_vft.Tie as tie
+
+pub msft-typeinfo-cb-size-vft-spec : {M : Type 1} → statement M
+msft-typeinfo-cb-size-vft-spec =
+    tie.close
+    (tie.spec
+    (λ c κs. search needs) (λ c κs. search needs) (λ c κs. search needs)
+    (λ c. cc))

@@ -1,0 +1,10 @@
+use borrow.Author.Needs.{needs}
+use Rattle.msft_typelib.proofs.typeinfo.msft_typeinfo_datatype1.Statement.{statement}
+use Rattle.msft_typelib.proofs.typeinfo.msft_typeinfo_datatype1.Tie as tie
+
+pub msft-typeinfo-datatype1-spec : {M : Type 1} → statement M
+msft-typeinfo-datatype1-spec =
+    tie.close
+    (tie.spec
+    (λ c κs. search needs) (λ c κs. search needs) (λ c κs. search needs)
+    (λ c. cc))

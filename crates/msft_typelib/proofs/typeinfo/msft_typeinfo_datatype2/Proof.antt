@@ -1,0 +1,10 @@
+use borrow.Author.Needs.{needs}
+use Rattle.msft_typelib.proofs.typeinfo.msft_typeinfo_datatype2.Statement.{statement}
+use Rattle.msft_typelib.proofs.typeinfo.msft_typeinfo_datatype2.Tie as tie
+
+pub msft-typeinfo-datatype2-spec : {M : Type 1} → statement M
+msft-typeinfo-datatype2-spec =
+    tie.close
+    (tie.spec
+    (λ c κs. search needs) (λ c κs. search needs) (λ c κs. search needs)
+    (λ c. cc))

@@ -1,0 +1,10 @@
+use borrow.Author.Needs.{needs}
+use Rattle.msft_typelib.proofs.typeinfo.msft_typeinfo_guid_offset.Statement.{statement}
+use Rattle.msft_typelib.proofs.typeinfo.msft_typeinfo_guid_offset.Tie as tie
+
+pub msft-typeinfo-guid-offset-spec : {M : Type 1} → statement M
+msft-typeinfo-guid-offset-spec =
+    tie.close
+    (tie.spec
+    (λ c κs. search needs) (λ c κs. search needs) (λ c κs. search needs)
+    (λ c. cc))

@@ -1,0 +1,10 @@
+use borrow.Author.Needs.{needs}
+use Rattle.msft_typelib.proofs.typeinfo.msft_typeinfo_helpcontext.Statement.{statement}
+use Rattle.msft_typelib.proofs.typeinfo.msft_typeinfo_helpcontext.Tie as tie
+
+pub msft-typeinfo-helpcontext-spec : {M : Type 1} → statement M
+msft-typeinfo-helpcontext-spec =
+    tie.close
+    (tie.spec
+    (λ c κs. search needs) (λ c κs. search needs) (λ c κs. search needs)
+    (λ c. cc))

@@ -1,0 +1,11 @@
+use Rattle.msft_typelib.specs.CallLaws.{library-is, number-is}
+use borrow.Author.Needs.{needs}
+use Rattle.msft_typelib.proofs.typeinfos.msft_typeinfo.Statement.{statement}
+use Rattle.msft_typelib.proofs.typeinfos.msft_typeinfo.Tie as tie
+
+pub msft-typeinfo-spec : {M : Type 1} → statement M
+msft-typeinfo-spec =
+    tie.close
+    (tie.spec
+    (λ c κs. search needs) (λ c κs. search needs) (λ c κs. search needs) (λ c κs. search needs) (λ c. search needs)
+    (λ c. rw (library-is (c .before .before .before .before .before .before .before .before .before .before .args .s .now) (c .before .before .before .before .before .before .before .parse .result) (c .before .before .before .before .before .before .before .parse .ensures), number-is (c .before .before .before .before .before .before .before .before .before .before .args .s .now) (c .before .before .before .before .before .before .before .parse .result) (c .before .before .before .before .before .before .before .parse .ensures)) (cc)))

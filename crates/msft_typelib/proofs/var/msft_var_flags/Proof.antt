@@ -1,0 +1,10 @@
+use borrow.Author.Needs.{needs}
+use Rattle.msft_typelib.proofs.var.msft_var_flags.Statement.{statement}
+use Rattle.msft_typelib.proofs.var.msft_var_flags.Tie as tie
+
+pub msft-var-flags-spec : {M : Type 1} → statement M
+msft-var-flags-spec =
+    tie.close
+    (tie.spec
+    (λ c κs. search needs) (λ c κs. search needs) (λ c κs. search needs)
+    (λ c. cc))

@@ -1,0 +1,10 @@
+use borrow.Author.Needs.{needs}
+use Rattle.msft_typelib.proofs.var.msft_var_help_string_offset.Statement.{statement}
+use Rattle.msft_typelib.proofs.var.msft_var_help_string_offset.Tie as tie
+
+pub msft-var-help-string-offset-spec : {M : Type 1} → statement M
+msft-var-help-string-offset-spec =
+    tie.close
+    (tie.spec
+    (λ c κs. search needs) (λ c κs. search needs) (λ c κs. search needs)
+    (λ c. cc))

@@ -1,0 +1,10 @@
+use borrow.Author.Needs.{needs}
+use Rattle.msft_typelib.proofs.var.msft_var_offs_value.Statement.{statement}
+use Rattle.msft_typelib.proofs.var.msft_var_offs_value.Tie as tie
+
+pub msft-var-offs-value-spec : {M : Type 1} → statement M
+msft-var-offs-value-spec =
+    tie.close
+    (tie.spec
+    (λ c κs. search needs) (λ c κs. search needs) (λ c κs. search needs)
+    (λ c. cc))

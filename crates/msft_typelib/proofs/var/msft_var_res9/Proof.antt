@@ -1,0 +1,10 @@
+use borrow.Author.Needs.{needs}
+use Rattle.msft_typelib.proofs.var.msft_var_res9.Statement.{statement}
+use Rattle.msft_typelib.proofs.var.msft_var_res9.Tie as tie
+
+pub msft-var-res9-spec : {M : Type 1} → statement M
+msft-var-res9-spec =
+    tie.close
+    (tie.spec
+    (λ c κs. search needs) (λ c κs. search needs) (λ c κs. search needs)
+    (λ c. cc))

@@ -1,0 +1,101 @@
+// Descriptions of types, references and constants.
+use crate::reply;
+use crate::rows;
+use typelib::TypeLib;
+ghost use Rattle.msft_typelib.specs.Call.{laid, libraryIn, outcome, past};
+ghost use Rattle.msft_typelib.specs.Values.{constant, description, pair, place, reference, size};
+ghost use Rattle.records.specs.Answer.{map};
+ghost use Rattle.typelib.specs.Constants.{constAt};
+ghost use Rattle.typelib.specs.Descriptors.{arrayDescAt, typeDescAt, typeDescription};
+ghost use Rattle.typelib.specs.References.{hrefIndex, hrefResolved, impFileAt};
+ghost use Rattle.typelib.specs.Tables.{lent};
+ghost use mathlib.Core.Path.{_≡_};
+ghost use mir.Syntax.{w32};
+ghost use mir.Val.{ofZ};
+
+// The type descriptor at an offset: its code, and what the code asks for.
+#[no_mangle]
+pub extern "C" fn msft_type_desc(s: &[u8], offset: i32, out: &mut [u8]) -> i64
+    ensures { λ r. ⌜ outcome r (now (out .exit)) ≡ laid (past (now (s .entry)) (map pair (typeDescAt (now (s .entry)) (libraryIn (now (s .entry))) (ofZ w32 offset)))) (now (out .entry)) ⌝ }
+{
+    let p = TypeLib::parse(s);
+    let lib = p.lib;
+    reply::lay(p.number, rows::of_pair(lib.type_desc(s, offset)), out)
+}
+
+// The array descriptor at an offset, with its bounds.
+#[no_mangle]
+pub extern "C" fn msft_array_desc(s: &[u8], offset: i32, out: &mut [u8]) -> i64
+    ensures { λ r. ⌜ outcome r (now (out .exit)) ≡ laid (past (now (s .entry)) (map place (arrayDescAt (now (s .entry)) (libraryIn (now (s .entry))) (ofZ w32 offset)))) (now (out .entry)) ⌝ }
+{
+    let p = TypeLib::parse(s);
+    let lib = p.lib;
+    reply::lay(
+        p.number,
+        rows::of_array_desc(lib.array_desc(s, offset)),
+        out,
+    )
+}
+
+// What a type field names, one level of it.
+#[no_mangle]
+pub extern "C" fn msft_type_description(s: &[u8], datatype: i32, out: &mut [u8]) -> i64
+    ensures { λ r. ⌜ outcome r (now (out .exit)) ≡ laid (past (now (s .entry)) (map description (lent (now (s .entry)) (typeDescription (now (s .entry)) (libraryIn (now (s .entry))) (ofZ w32 datatype))))) (now (out .entry)) ⌝ }
+{
+    let p = TypeLib::parse(s);
+    let lib = p.lib;
+    reply::lay(
+        p.number,
+        rows::of_description(lib.type_description(s, datatype)),
+        out,
+    )
+}
+
+// The import file at an offset of its table.
+#[no_mangle]
+pub extern "C" fn msft_imp_file(s: &[u8], offset: i32, out: &mut [u8]) -> i64
+    ensures { λ r. ⌜ outcome r (now (out .exit)) ≡ laid (past (now (s .entry)) (map place (impFileAt (now (s .entry)) (libraryIn (now (s .entry))) (ofZ w32 offset)))) (now (out .entry)) ⌝ }
+{
+    let p = TypeLib::parse(s);
+    let lib = p.lib;
+    reply::lay(p.number, rows::of_imp_file(lib.imp_file(s, offset)), out)
+}
+
+// The index of the typeinfo that an internal hreftype refers to.
+#[no_mangle]
+pub extern "C" fn msft_resolve_hreftype(s: &[u8], hreftype: i32, out: &mut [u8]) -> i64
+    ensures { λ r. ⌜ outcome r (now (out .exit)) ≡ laid (past (now (s .entry)) (map size (hrefIndex (libraryIn (now (s .entry))) (ofZ w32 hreftype)))) (now (out .entry)) ⌝ }
+{
+    let p = TypeLib::parse(s);
+    let lib = p.lib;
+    reply::lay(
+        p.number,
+        rows::of_index(lib.resolve_hreftype(hreftype)),
+        out,
+    )
+}
+
+// What an hreftype refers to, in this library or another.
+#[no_mangle]
+pub extern "C" fn msft_resolve_hreftype_full(s: &[u8], hreftype: i32, out: &mut [u8]) -> i64
+    ensures { λ r. ⌜ outcome r (now (out .exit)) ≡ laid (past (now (s .entry)) (map reference (hrefResolved (now (s .entry)) (libraryIn (now (s .entry))) (ofZ w32 hreftype)))) (now (out .entry)) ⌝ }
+{
+    let p = TypeLib::parse(s);
+    let lib = p.lib;
+    reply::lay(
+        p.number,
+        rows::of_resolved(lib.resolve_hreftype_full(s, hreftype)),
+        out,
+    )
+}
+
+// The constant that a record's word gives: inline where the word is negative, else at that offset
+// of the table.
+#[no_mangle]
+pub extern "C" fn msft_const_value(s: &[u8], word: i32, out: &mut [u8]) -> i64
+    ensures { λ r. ⌜ outcome r (now (out .exit)) ≡ laid (past (now (s .entry)) (map constant (constAt (now (s .entry)) (libraryIn (now (s .entry))) (ofZ w32 word)))) (now (out .entry)) ⌝ }
+{
+    let p = TypeLib::parse(s);
+    let lib = p.lib;
+    reply::lay(p.number, rows::of_const(lib.const_value(s, word)), out)
+}

@@ -1,0 +1,279 @@
+// Cursors: each goes in as its numbers, and comes back as bytes.
+use crate::reply;
+use crate::rows;
+use records::answer::Place;
+use records::func::FuncRecord;
+use records::typeinfo::TypeInfoEntry;
+use typelib::TypeLib;
+use typelib::impltypes::ImplTypeCursor;
+use typelib::iterators::FuncCursor;
+use typelib::iterators::GuidCursor;
+use typelib::iterators::ImpFileCursor;
+use typelib::iterators::ImportCursor;
+use typelib::iterators::NameCursor;
+use typelib::iterators::ParamCursor;
+use typelib::iterators::TypeInfoCursor;
+use typelib::iterators::VarCursor;
+ghost use Rattle.msft_typelib.specs.At.{chainAt, funcAt, funcsAt, guidsAt, impFilesAt, importsAt, namesAt, paramsAt, typeinfoAt, typeinfosAt, varsAt};
+ghost use Rattle.msft_typelib.specs.Call.{laid, libraryIn, outcome, past};
+ghost use Rattle.msft_typelib.specs.Values.{chainCursor, chainStep, cursor, entryStep, guidCursor, impFileCursor, importCursor, nameCursor, size, step, typeinfoCursor};
+ghost use Rattle.records.specs.Answer.{map, value};
+ghost use Rattle.typelib.specs.Chain.{implTypeStep, implTypesOf, walkOf};
+ghost use Rattle.typelib.specs.Cursors.{funcCursor, funcStep, funcsOf, guidStep, guidsOf, impFileStep, impFilesOf, importStep, importsOf, nameStep, namesOf, paramCursor, paramStep, paramsOf, typeinfoStep, varCursor, varStep, varsOf};
+ghost use mathlib.Core.Path.{_≡_};
+
+// The function records of a typeinfo.
+#[no_mangle]
+pub extern "C" fn msft_funcs(s: &[u8], at: usize, len: usize, out: &mut [u8]) -> i64
+    ensures { λ r. ⌜ outcome r (now (out .exit)) ≡ laid (past (now (s .entry)) (map (cursor funcCursor) (funcsOf (now (s .entry)) (typeinfoAt at len)))) (now (out .entry)) ⌝ }
+{
+    let p = TypeLib::parse(s);
+    let lib = p.lib;
+    reply::lay(
+        p.number,
+        rows::of_funcs(lib.funcs(s, TypeInfoEntry { at, len })),
+        out,
+    )
+}
+
+// The variable records of a typeinfo, behind its function records.
+#[no_mangle]
+pub extern "C" fn msft_vars(s: &[u8], at: usize, len: usize, out: &mut [u8]) -> i64
+    ensures { λ r. ⌜ outcome r (now (out .exit)) ≡ laid (past (now (s .entry)) (map (cursor varCursor) (varsOf (now (s .entry)) (typeinfoAt at len)))) (now (out .entry)) ⌝ }
+{
+    let p = TypeLib::parse(s);
+    let lib = p.lib;
+    reply::lay(
+        p.number,
+        rows::of_vars(lib.vars(s, TypeInfoEntry { at, len })),
+        out,
+    )
+}
+
+// The parameters of a function, at the end of its record.
+#[no_mangle]
+pub extern "C" fn msft_params(s: &[u8], at: usize, len: usize, out: &mut [u8]) -> i64
+    ensures { λ r. ⌜ outcome r (now (out .exit)) ≡ laid (past (now (s .entry)) (map (cursor paramCursor) (paramsOf (now (s .entry)) (funcAt at len)))) (now (out .entry)) ⌝ }
+{
+    let p = TypeLib::parse(s);
+    let lib = p.lib;
+    reply::lay(
+        p.number,
+        rows::of_params(lib.params(s, FuncRecord { at, len })),
+        out,
+    )
+}
+
+// The entries of the GUID table.
+#[no_mangle]
+pub extern "C" fn msft_guids(s: &[u8], out: &mut [u8]) -> i64
+    ensures { λ r. ⌜ outcome r (now (out .exit)) ≡ laid (past (now (s .entry)) (value (cursor guidCursor (guidsOf (libraryIn (now (s .entry))))))) (now (out .entry)) ⌝ }
+{
+    let p = TypeLib::parse(s);
+    let lib = p.lib;
+    reply::lay(p.number, rows::of_guids(lib.guids()), out)
+}
+
+// The import records.
+#[no_mangle]
+pub extern "C" fn msft_imports(s: &[u8], out: &mut [u8]) -> i64
+    ensures { λ r. ⌜ outcome r (now (out .exit)) ≡ laid (past (now (s .entry)) (value (cursor importCursor (importsOf (libraryIn (now (s .entry))))))) (now (out .entry)) ⌝ }
+{
+    let p = TypeLib::parse(s);
+    let lib = p.lib;
+    reply::lay(p.number, rows::of_imports(lib.imports()), out)
+}
+
+// The import files.
+#[no_mangle]
+pub extern "C" fn msft_imp_files(s: &[u8], out: &mut [u8]) -> i64
+    ensures { λ r. ⌜ outcome r (now (out .exit)) ≡ laid (past (now (s .entry)) (value (cursor impFileCursor (impFilesOf (libraryIn (now (s .entry))))))) (now (out .entry)) ⌝ }
+{
+    let p = TypeLib::parse(s);
+    let lib = p.lib;
+    reply::lay(p.number, rows::of_imp_files(lib.imp_files()), out)
+}
+
+// The entries of the name table.
+#[no_mangle]
+pub extern "C" fn msft_names(s: &[u8], out: &mut [u8]) -> i64
+    ensures { λ r. ⌜ outcome r (now (out .exit)) ≡ laid (past (now (s .entry)) (value (cursor nameCursor (namesOf (libraryIn (now (s .entry))))))) (now (out .entry)) ⌝ }
+{
+    let p = TypeLib::parse(s);
+    let lib = p.lib;
+    reply::lay(p.number, rows::of_names(lib.names()), out)
+}
+
+// The cursor over the types that `ti` implements, at the first.
+#[no_mangle]
+pub extern "C" fn msft_impl_types(s: &[u8], at: usize, len: usize, out: &mut [u8]) -> i64
+    ensures { λ r. ⌜ outcome r (now (out .exit)) ≡ laid (past (now (s .entry)) (map chainCursor (implTypesOf (now (s .entry)) (libraryIn (now (s .entry))) (typeinfoAt at len)))) (now (out .entry)) ⌝ }
+{
+    let p = TypeLib::parse(s);
+    let lib = p.lib;
+    reply::lay(
+        p.number,
+        rows::of_impl_types(lib.impl_types(s, TypeInfoEntry { at, len })),
+        out,
+    )
+}
+
+#[no_mangle]
+pub extern "C" fn msft_func_step(
+    s: &[u8],
+    pos: usize,
+    end: usize,
+    remaining: usize,
+    out: &mut [u8],
+) -> i64
+    ensures { λ r. ⌜ outcome r (now (out .exit)) ≡ laid (past (now (s .entry)) (step funcCursor (funcStep (now (s .entry)) (funcsAt pos end remaining)))) (now (out .entry)) ⌝ }
+{
+    reply::lay(
+        reply::refusal(s),
+        rows::of_func_step(FuncCursor {
+            pos,
+            end,
+            remaining,
+        }.step(s)),
+        out,
+    )
+}
+
+#[no_mangle]
+pub extern "C" fn msft_var_step(
+    s: &[u8],
+    pos: usize,
+    end: usize,
+    remaining: usize,
+    out: &mut [u8],
+) -> i64
+    ensures { λ r. ⌜ outcome r (now (out .exit)) ≡ laid (past (now (s .entry)) (step varCursor (varStep (now (s .entry)) (varsAt pos end remaining)))) (now (out .entry)) ⌝ }
+{
+    reply::lay(
+        reply::refusal(s),
+        rows::of_var_step(VarCursor {
+            pos,
+            end,
+            remaining,
+        }.step(s)),
+        out,
+    )
+}
+
+#[no_mangle]
+pub extern "C" fn msft_param_step(
+    s: &[u8],
+    pos: usize,
+    end: usize,
+    remaining: usize,
+    out: &mut [u8],
+) -> i64
+    ensures { λ r. ⌜ outcome r (now (out .exit)) ≡ laid (past (now (s .entry)) (step paramCursor (paramStep (now (s .entry)) (paramsAt pos end remaining)))) (now (out .entry)) ⌝ }
+{
+    reply::lay(
+        reply::refusal(s),
+        rows::of_param_step(ParamCursor {
+            pos,
+            end,
+            remaining,
+        }.step(s)),
+        out,
+    )
+}
+
+#[no_mangle]
+pub extern "C" fn msft_guid_step(s: &[u8], pos: usize, end: usize, out: &mut [u8]) -> i64
+    ensures { λ r. ⌜ outcome r (now (out .exit)) ≡ laid (past (now (s .entry)) (step guidCursor (guidStep (now (s .entry)) (guidsAt pos end)))) (now (out .entry)) ⌝ }
+{
+    reply::lay(
+        reply::refusal(s),
+        rows::of_guid_step(GuidCursor { pos, end }.step(s)),
+        out,
+    )
+}
+
+#[no_mangle]
+pub extern "C" fn msft_import_step(s: &[u8], pos: usize, end: usize, out: &mut [u8]) -> i64
+    ensures { λ r. ⌜ outcome r (now (out .exit)) ≡ laid (past (now (s .entry)) (step importCursor (importStep (now (s .entry)) (importsAt pos end)))) (now (out .entry)) ⌝ }
+{
+    reply::lay(
+        reply::refusal(s),
+        rows::of_import_step(ImportCursor { pos, end }.step(s)),
+        out,
+    )
+}
+
+#[no_mangle]
+pub extern "C" fn msft_imp_file_step(s: &[u8], pos: usize, end: usize, out: &mut [u8]) -> i64
+    ensures { λ r. ⌜ outcome r (now (out .exit)) ≡ laid (past (now (s .entry)) (step impFileCursor (impFileStep (now (s .entry)) (impFilesAt pos end)))) (now (out .entry)) ⌝ }
+{
+    reply::lay(
+        reply::refusal(s),
+        rows::of_imp_file_step(ImpFileCursor { pos, end }.step(s)),
+        out,
+    )
+}
+
+#[no_mangle]
+pub extern "C" fn msft_name_step(
+    s: &[u8],
+    pos: usize,
+    end: usize,
+    start: usize,
+    out: &mut [u8],
+) -> i64
+    ensures { λ r. ⌜ outcome r (now (out .exit)) ≡ laid (past (now (s .entry)) (entryStep (nameStep (now (s .entry)) (namesAt pos end start)))) (now (out .entry)) ⌝ }
+{
+    reply::lay(
+        reply::refusal(s),
+        rows::of_name_step(NameCursor { pos, end, start }.step(s)),
+        out,
+    )
+}
+
+#[no_mangle]
+pub extern "C" fn msft_typeinfo_step(s: &[u8], index: usize, out: &mut [u8]) -> i64
+    ensures { λ r. ⌜ outcome r (now (out .exit)) ≡ laid (past (now (s .entry)) (step typeinfoCursor (typeinfoStep (now (s .entry)) (libraryIn (now (s .entry))) (typeinfosAt index)))) (now (out .entry)) ⌝ }
+{
+    let p = TypeLib::parse(s);
+    let lib = p.lib;
+    reply::lay(
+        p.number,
+        rows::of_typeinfo_step(TypeInfoCursor { index }.step(s, lib)),
+        out,
+    )
+}
+
+#[no_mangle]
+pub extern "C" fn msft_impl_type_step(
+    s: &[u8],
+    at: usize,
+    len: usize,
+    next: u32,
+    out: &mut [u8],
+) -> i64
+    ensures { λ r. ⌜ outcome r (now (out .exit)) ≡ laid (past (now (s .entry)) (chainStep (implTypeStep (now (s .entry)) (chainAt at len next)))) (now (out .entry)) ⌝ }
+{
+    reply::lay(
+        reply::refusal(s),
+        rows::of_impl_type_step(ImplTypeCursor {
+            table: Place { at, len },
+            next,
+        }.step(s)),
+        out,
+    )
+}
+
+#[no_mangle]
+pub extern "C" fn msft_walk(s: &[u8], at: usize, len: usize, next: u32, out: &mut [u8]) -> i64
+    ensures { λ r. ⌜ outcome r (now (out .exit)) ≡ laid (past (now (s .entry)) (map size (walkOf (now (s .entry)) (chainAt at len next)))) (now (out .entry)) ⌝ }
+{
+    reply::lay(
+        reply::refusal(s),
+        rows::of_walk(ImplTypeCursor {
+            table: Place { at, len },
+            next,
+        }.walk(s)),
+        out,
+    )
+}
