@@ -6,3 +6,4 @@ pub mod Told
 pub mod CallLaws
 pub mod LayLaws
 pub mod RowLaws
+pub mod Written

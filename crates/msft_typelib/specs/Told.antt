@@ -5,7 +5,7 @@ use Rattle.records.specs.Answer.{Answer, value, refused}
 use Rattle.typelib.specs.Told.{toldImpFile}
 use Rattle.typelib.specs.References.{external}
 use Rattle.description.specs.Format.{leBytes}
-use Rattle.msft_typelib.specs.Values.{eights, reference, constant, nameEntry, cursor, nameCursor}
+use Rattle.msft_typelib.specs.Values.{eights, reference, constant, nameEntry, cursor, nameNumbers}
 use Rattle.msft_typelib.specs.declared.row.Longs.{Longs}
 use Rattle.msft_typelib.specs.declared.row.Longs.the-variants as longs
 use Rattle.msft_typelib.specs.declared.row.Row.{Row}
@@ -27,5 +27,5 @@ toldRow (row.Half m a) = value (m ∷ leBytes 2 a)
 toldRow (row.Word m a) = value (m ∷ leBytes 4 a)
 toldRow (row.Import p f) = value (reference (external p (toldImpFile f)))
 toldRow (row.Constant v) = value (constant v)
-toldRow (row.Entry e c) = value (nameEntry e ++ cursor nameCursor c)
+toldRow (row.Entry e c) = value (nameEntry e ++ cursor nameNumbers c)
 toldRow (row.Refused n) = refused n

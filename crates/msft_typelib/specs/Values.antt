@@ -86,29 +86,29 @@ constant v = leBytes 2 (vtOf v) ++ contentBytes (shapeOf (vtOf v)) (contentOf v)
 
 -- ---- cursors
 
-abbrev pub funcCursor : FuncCursor → List ℕ
-funcCursor c = c .pos ∷ c .end ∷ c .remaining ∷ []
+abbrev pub funcNumbers : FuncCursor → List ℕ
+funcNumbers c = c .pos ∷ c .end ∷ c .remaining ∷ []
 
-abbrev pub varCursor : VarCursor → List ℕ
-varCursor c = c .pos ∷ c .end ∷ c .remaining ∷ []
+abbrev pub varNumbers : VarCursor → List ℕ
+varNumbers c = c .pos ∷ c .end ∷ c .remaining ∷ []
 
-abbrev pub paramCursor : ParamCursor → List ℕ
-paramCursor c = c .pos ∷ c .end ∷ c .remaining ∷ []
+abbrev pub paramNumbers : ParamCursor → List ℕ
+paramNumbers c = c .pos ∷ c .end ∷ c .remaining ∷ []
 
-abbrev pub guidCursor : GuidCursor → List ℕ
-guidCursor c = c .pos ∷ c .end ∷ []
+abbrev pub guidNumbers : GuidCursor → List ℕ
+guidNumbers c = c .pos ∷ c .end ∷ []
 
-abbrev pub importCursor : ImportCursor → List ℕ
-importCursor c = c .pos ∷ c .end ∷ []
+abbrev pub importNumbers : ImportCursor → List ℕ
+importNumbers c = c .pos ∷ c .end ∷ []
 
-abbrev pub impFileCursor : ImpFileCursor → List ℕ
-impFileCursor c = c .pos ∷ c .end ∷ []
+abbrev pub impFileNumbers : ImpFileCursor → List ℕ
+impFileNumbers c = c .pos ∷ c .end ∷ []
 
-abbrev pub nameCursor : NameCursor → List ℕ
-nameCursor c = c .pos ∷ c .end ∷ c .start ∷ []
+abbrev pub nameNumbers : NameCursor → List ℕ
+nameNumbers c = c .pos ∷ c .end ∷ c .start ∷ []
 
-abbrev pub typeinfoCursor : TypeInfoCursor → List ℕ
-typeinfoCursor c = c .index ∷ []
+abbrev pub typeinfoNumbers : TypeInfoCursor → List ℕ
+typeinfoNumbers c = c .index ∷ []
 
 -- the cursor alone
 abbrev pub cursor : {C : Type 0} → (C → List ℕ) → C → List ℕ
@@ -134,5 +134,5 @@ nameEntry e =
     ++ (leBytes 4 (ofZ w32 (e .hreftype)) ++ (leBytes 4 (ofZ w32 (e .«next_hash»)) ++ (leBytes 1 (e .flags) ++ leBytes 2 (e .hashcode))))
 
 abbrev pub entryStep : NameYield → Answer (List ℕ)
-entryStep (entry e c) = value (nameEntry e ++ cursor nameCursor c)
+entryStep (entry e c) = value (nameEntry e ++ cursor nameNumbers c)
 entryStep (over n c) = refused n

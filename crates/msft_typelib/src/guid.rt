@@ -5,6 +5,7 @@ use records::guid::Guid;
 ghost use Rattle.msft_typelib.specs.Call.{laid, outcome, past, reply};
 ghost use Rattle.msft_typelib.specs.Values.{place};
 ghost use Rattle.records.specs.Answer.{map};
+ghost use Rattle.records.specs.Guid.{guidText};
 ghost use Rattle.records.specs.Layout.{guid, sizeOf};
 ghost use Rattle.records.specs.Record.{field, placeOf, recordPlace};
 ghost use mathlib.Core.Path.{_≡_};
@@ -52,4 +53,16 @@ pub extern "C" fn msft_guid_data4(s: &[u8], at: usize, len: usize, out: &mut [u8
         rows::of_place(Guid { at, len }.data4(s)),
         out,
     )
+}
+
+// The text form, `{XXXXXXXX-XXXX-XXXX-XXXX-XXXXXXXXXXXX}`.
+#[no_mangle]
+pub extern "C" fn msft_guid_text(s: &[u8], at: usize, len: usize, out: &mut [u8]) -> i64
+    ensures { λ r. ⌜ outcome r (now (out .exit)) ≡ laid (past (now (s .entry)) (guidText (now (s .entry)) at len)) (now (out .entry)) ⌝ }
+{
+    let number = reply::refusal(s);
+    if number != 0 {
+        return reply::minus(number);
+    }
+    reply::of_written(Guid { at, len }.text(s, out))
 }

@@ -1,8 +1,9 @@
 // The library's header.
 use crate::reply;
+use records::answer::U32Answer;
 use typelib::TypeLib;
-ghost use Rattle.msft_typelib.specs.Call.{bits32, past, reply, truth};
-ghost use Rattle.records.specs.Answer.{map};
+ghost use Rattle.msft_typelib.specs.Call.{bits32, libraryIn, past, reply, truth};
+ghost use Rattle.records.specs.Answer.{map, value};
 ghost use Rattle.records.specs.Record.{bitsOf, flagSet, signed32};
 ghost use Rattle.typelib.specs.Header.{headerField, helpDllFlag};
 ghost use mathlib.Core.Path.{_≡_};
@@ -207,4 +208,22 @@ pub extern "C" fn msft_nimpinfos(s: &[u8]) -> i64
     let p = TypeLib::parse(s);
     let lib = p.lib;
     reply::of_i32(p.number, lib.nimpinfos(s))
+}
+
+// 0 where the bytes are a library, else refusal 1 to 5.
+#[no_mangle]
+pub extern "C" fn msft_parse(s: &[u8]) -> i64
+    ensures { λ r. ⌜ r ≡ reply (past (now (s .entry)) (value 0)) ⌝ }
+{
+    reply::of_u32(reply::refusal(s), U32Answer::Value(0))
+}
+
+// How many typeinfos the library has.
+#[no_mangle]
+pub extern "C" fn msft_typeinfo_count(s: &[u8]) -> i64
+    ensures { λ r. ⌜ r ≡ reply (past (now (s .entry)) (value (libraryIn (now (s .entry)) .count))) ⌝ }
+{
+    let p = TypeLib::parse(s);
+    let lib = p.lib;
+    reply::of_u32(p.number, U32Answer::Value(lib.typeinfo_count() as u32))
 }

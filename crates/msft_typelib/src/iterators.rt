@@ -2,6 +2,7 @@
 use crate::reply;
 use crate::rows;
 use records::answer::Place;
+use records::answer::UsizeAnswer;
 use records::func::FuncRecord;
 use records::typeinfo::TypeInfoEntry;
 use typelib::TypeLib;
@@ -16,16 +17,17 @@ use typelib::iterators::TypeInfoCursor;
 use typelib::iterators::VarCursor;
 ghost use Rattle.msft_typelib.specs.At.{chainAt, funcAt, funcsAt, guidsAt, impFilesAt, importsAt, namesAt, paramsAt, typeinfoAt, typeinfosAt, varsAt};
 ghost use Rattle.msft_typelib.specs.Call.{laid, libraryIn, outcome, past};
-ghost use Rattle.msft_typelib.specs.Values.{chainCursor, chainStep, cursor, entryStep, guidCursor, impFileCursor, importCursor, nameCursor, size, step, typeinfoCursor};
+ghost use Rattle.msft_typelib.specs.Values.{chainCursor, chainStep, cursor, entryStep, funcNumbers, guidNumbers, impFileNumbers, importNumbers, nameNumbers, paramNumbers, size, step, typeinfoNumbers, varNumbers};
 ghost use Rattle.records.specs.Answer.{map, value};
 ghost use Rattle.typelib.specs.Chain.{implTypeStep, implTypesOf, walkOf};
-ghost use Rattle.typelib.specs.Cursors.{funcCursor, funcStep, funcsOf, guidStep, guidsOf, impFileStep, impFilesOf, importStep, importsOf, nameStep, namesOf, paramCursor, paramStep, paramsOf, typeinfoStep, varCursor, varStep, varsOf};
+ghost use Rattle.typelib.specs.Cursors.{funcStep, funcsOf, guidStep, guidsOf, impFileStep, impFilesOf, importStep, importsOf, nameStep, namesOf, paramStep, paramsOf, typeinfoStep, varStep, varsOf};
+ghost use Prim.Native.Nat.{_-_};
 ghost use mathlib.Core.Path.{_≡_};
 
 // The function records of a typeinfo.
 #[no_mangle]
 pub extern "C" fn msft_funcs(s: &[u8], at: usize, len: usize, out: &mut [u8]) -> i64
-    ensures { λ r. ⌜ outcome r (now (out .exit)) ≡ laid (past (now (s .entry)) (map (cursor funcCursor) (funcsOf (now (s .entry)) (typeinfoAt at len)))) (now (out .entry)) ⌝ }
+    ensures { λ r. ⌜ outcome r (now (out .exit)) ≡ laid (past (now (s .entry)) (map (cursor funcNumbers) (funcsOf (now (s .entry)) (typeinfoAt at len)))) (now (out .entry)) ⌝ }
 {
     let p = TypeLib::parse(s);
     let lib = p.lib;
@@ -39,7 +41,7 @@ pub extern "C" fn msft_funcs(s: &[u8], at: usize, len: usize, out: &mut [u8]) ->
 // The variable records of a typeinfo, behind its function records.
 #[no_mangle]
 pub extern "C" fn msft_vars(s: &[u8], at: usize, len: usize, out: &mut [u8]) -> i64
-    ensures { λ r. ⌜ outcome r (now (out .exit)) ≡ laid (past (now (s .entry)) (map (cursor varCursor) (varsOf (now (s .entry)) (typeinfoAt at len)))) (now (out .entry)) ⌝ }
+    ensures { λ r. ⌜ outcome r (now (out .exit)) ≡ laid (past (now (s .entry)) (map (cursor varNumbers) (varsOf (now (s .entry)) (typeinfoAt at len)))) (now (out .entry)) ⌝ }
 {
     let p = TypeLib::parse(s);
     let lib = p.lib;
@@ -53,7 +55,7 @@ pub extern "C" fn msft_vars(s: &[u8], at: usize, len: usize, out: &mut [u8]) -> 
 // The parameters of a function, at the end of its record.
 #[no_mangle]
 pub extern "C" fn msft_params(s: &[u8], at: usize, len: usize, out: &mut [u8]) -> i64
-    ensures { λ r. ⌜ outcome r (now (out .exit)) ≡ laid (past (now (s .entry)) (map (cursor paramCursor) (paramsOf (now (s .entry)) (funcAt at len)))) (now (out .entry)) ⌝ }
+    ensures { λ r. ⌜ outcome r (now (out .exit)) ≡ laid (past (now (s .entry)) (map (cursor paramNumbers) (paramsOf (now (s .entry)) (funcAt at len)))) (now (out .entry)) ⌝ }
 {
     let p = TypeLib::parse(s);
     let lib = p.lib;
@@ -67,7 +69,7 @@ pub extern "C" fn msft_params(s: &[u8], at: usize, len: usize, out: &mut [u8]) -
 // The entries of the GUID table.
 #[no_mangle]
 pub extern "C" fn msft_guids(s: &[u8], out: &mut [u8]) -> i64
-    ensures { λ r. ⌜ outcome r (now (out .exit)) ≡ laid (past (now (s .entry)) (value (cursor guidCursor (guidsOf (libraryIn (now (s .entry))))))) (now (out .entry)) ⌝ }
+    ensures { λ r. ⌜ outcome r (now (out .exit)) ≡ laid (past (now (s .entry)) (value (cursor guidNumbers (guidsOf (libraryIn (now (s .entry))))))) (now (out .entry)) ⌝ }
 {
     let p = TypeLib::parse(s);
     let lib = p.lib;
@@ -77,7 +79,7 @@ pub extern "C" fn msft_guids(s: &[u8], out: &mut [u8]) -> i64
 // The import records.
 #[no_mangle]
 pub extern "C" fn msft_imports(s: &[u8], out: &mut [u8]) -> i64
-    ensures { λ r. ⌜ outcome r (now (out .exit)) ≡ laid (past (now (s .entry)) (value (cursor importCursor (importsOf (libraryIn (now (s .entry))))))) (now (out .entry)) ⌝ }
+    ensures { λ r. ⌜ outcome r (now (out .exit)) ≡ laid (past (now (s .entry)) (value (cursor importNumbers (importsOf (libraryIn (now (s .entry))))))) (now (out .entry)) ⌝ }
 {
     let p = TypeLib::parse(s);
     let lib = p.lib;
@@ -87,7 +89,7 @@ pub extern "C" fn msft_imports(s: &[u8], out: &mut [u8]) -> i64
 // The import files.
 #[no_mangle]
 pub extern "C" fn msft_imp_files(s: &[u8], out: &mut [u8]) -> i64
-    ensures { λ r. ⌜ outcome r (now (out .exit)) ≡ laid (past (now (s .entry)) (value (cursor impFileCursor (impFilesOf (libraryIn (now (s .entry))))))) (now (out .entry)) ⌝ }
+    ensures { λ r. ⌜ outcome r (now (out .exit)) ≡ laid (past (now (s .entry)) (value (cursor impFileNumbers (impFilesOf (libraryIn (now (s .entry))))))) (now (out .entry)) ⌝ }
 {
     let p = TypeLib::parse(s);
     let lib = p.lib;
@@ -97,7 +99,7 @@ pub extern "C" fn msft_imp_files(s: &[u8], out: &mut [u8]) -> i64
 // The entries of the name table.
 #[no_mangle]
 pub extern "C" fn msft_names(s: &[u8], out: &mut [u8]) -> i64
-    ensures { λ r. ⌜ outcome r (now (out .exit)) ≡ laid (past (now (s .entry)) (value (cursor nameCursor (namesOf (libraryIn (now (s .entry))))))) (now (out .entry)) ⌝ }
+    ensures { λ r. ⌜ outcome r (now (out .exit)) ≡ laid (past (now (s .entry)) (value (cursor nameNumbers (namesOf (libraryIn (now (s .entry))))))) (now (out .entry)) ⌝ }
 {
     let p = TypeLib::parse(s);
     let lib = p.lib;
@@ -126,7 +128,7 @@ pub extern "C" fn msft_func_step(
     remaining: usize,
     out: &mut [u8],
 ) -> i64
-    ensures { λ r. ⌜ outcome r (now (out .exit)) ≡ laid (past (now (s .entry)) (step funcCursor (funcStep (now (s .entry)) (funcsAt pos end remaining)))) (now (out .entry)) ⌝ }
+    ensures { λ r. ⌜ outcome r (now (out .exit)) ≡ laid (past (now (s .entry)) (step funcNumbers (funcStep (now (s .entry)) (funcsAt pos end remaining)))) (now (out .entry)) ⌝ }
 {
     reply::lay(
         reply::refusal(s),
@@ -147,7 +149,7 @@ pub extern "C" fn msft_var_step(
     remaining: usize,
     out: &mut [u8],
 ) -> i64
-    ensures { λ r. ⌜ outcome r (now (out .exit)) ≡ laid (past (now (s .entry)) (step varCursor (varStep (now (s .entry)) (varsAt pos end remaining)))) (now (out .entry)) ⌝ }
+    ensures { λ r. ⌜ outcome r (now (out .exit)) ≡ laid (past (now (s .entry)) (step varNumbers (varStep (now (s .entry)) (varsAt pos end remaining)))) (now (out .entry)) ⌝ }
 {
     reply::lay(
         reply::refusal(s),
@@ -168,7 +170,7 @@ pub extern "C" fn msft_param_step(
     remaining: usize,
     out: &mut [u8],
 ) -> i64
-    ensures { λ r. ⌜ outcome r (now (out .exit)) ≡ laid (past (now (s .entry)) (step paramCursor (paramStep (now (s .entry)) (paramsAt pos end remaining)))) (now (out .entry)) ⌝ }
+    ensures { λ r. ⌜ outcome r (now (out .exit)) ≡ laid (past (now (s .entry)) (step paramNumbers (paramStep (now (s .entry)) (paramsAt pos end remaining)))) (now (out .entry)) ⌝ }
 {
     reply::lay(
         reply::refusal(s),
@@ -183,7 +185,7 @@ pub extern "C" fn msft_param_step(
 
 #[no_mangle]
 pub extern "C" fn msft_guid_step(s: &[u8], pos: usize, end: usize, out: &mut [u8]) -> i64
-    ensures { λ r. ⌜ outcome r (now (out .exit)) ≡ laid (past (now (s .entry)) (step guidCursor (guidStep (now (s .entry)) (guidsAt pos end)))) (now (out .entry)) ⌝ }
+    ensures { λ r. ⌜ outcome r (now (out .exit)) ≡ laid (past (now (s .entry)) (step guidNumbers (guidStep (now (s .entry)) (guidsAt pos end)))) (now (out .entry)) ⌝ }
 {
     reply::lay(
         reply::refusal(s),
@@ -194,7 +196,7 @@ pub extern "C" fn msft_guid_step(s: &[u8], pos: usize, end: usize, out: &mut [u8
 
 #[no_mangle]
 pub extern "C" fn msft_import_step(s: &[u8], pos: usize, end: usize, out: &mut [u8]) -> i64
-    ensures { λ r. ⌜ outcome r (now (out .exit)) ≡ laid (past (now (s .entry)) (step importCursor (importStep (now (s .entry)) (importsAt pos end)))) (now (out .entry)) ⌝ }
+    ensures { λ r. ⌜ outcome r (now (out .exit)) ≡ laid (past (now (s .entry)) (step importNumbers (importStep (now (s .entry)) (importsAt pos end)))) (now (out .entry)) ⌝ }
 {
     reply::lay(
         reply::refusal(s),
@@ -205,7 +207,7 @@ pub extern "C" fn msft_import_step(s: &[u8], pos: usize, end: usize, out: &mut [
 
 #[no_mangle]
 pub extern "C" fn msft_imp_file_step(s: &[u8], pos: usize, end: usize, out: &mut [u8]) -> i64
-    ensures { λ r. ⌜ outcome r (now (out .exit)) ≡ laid (past (now (s .entry)) (step impFileCursor (impFileStep (now (s .entry)) (impFilesAt pos end)))) (now (out .entry)) ⌝ }
+    ensures { λ r. ⌜ outcome r (now (out .exit)) ≡ laid (past (now (s .entry)) (step impFileNumbers (impFileStep (now (s .entry)) (impFilesAt pos end)))) (now (out .entry)) ⌝ }
 {
     reply::lay(
         reply::refusal(s),
@@ -233,7 +235,7 @@ pub extern "C" fn msft_name_step(
 
 #[no_mangle]
 pub extern "C" fn msft_typeinfo_step(s: &[u8], index: usize, out: &mut [u8]) -> i64
-    ensures { λ r. ⌜ outcome r (now (out .exit)) ≡ laid (past (now (s .entry)) (step typeinfoCursor (typeinfoStep (now (s .entry)) (libraryIn (now (s .entry))) (typeinfosAt index)))) (now (out .entry)) ⌝ }
+    ensures { λ r. ⌜ outcome r (now (out .exit)) ≡ laid (past (now (s .entry)) (step typeinfoNumbers (typeinfoStep (now (s .entry)) (libraryIn (now (s .entry))) (typeinfosAt index)))) (now (out .entry)) ⌝ }
 {
     let p = TypeLib::parse(s);
     let lib = p.lib;
@@ -276,4 +278,25 @@ pub extern "C" fn msft_walk(s: &[u8], at: usize, len: usize, next: u32, out: &mu
         }.walk(s)),
         out,
     )
+}
+
+// The typeinfos of the library, from the first.
+#[no_mangle]
+pub extern "C" fn msft_typeinfos(s: &[u8], out: &mut [u8]) -> i64
+    ensures { λ r. ⌜ outcome r (now (out .exit)) ≡ laid (past (now (s .entry)) (value (cursor typeinfoNumbers (typeinfosAt 0)))) (now (out .entry)) ⌝ }
+{
+    let p = TypeLib::parse(s);
+    let lib = p.lib;
+    reply::lay(p.number, rows::of_typeinfos(lib.typeinfos()), out)
+}
+
+// How many typeinfos are left. (Of the other cursors that is the number `remaining`.)
+#[no_mangle]
+pub extern "C" fn msft_typeinfo_size_hint(s: &[u8], index: usize, out: &mut [u8]) -> i64
+    ensures { λ r. ⌜ outcome r (now (out .exit)) ≡ laid (past (now (s .entry)) (value (size (libraryIn (now (s .entry)) .count - index)))) (now (out .entry)) ⌝ }
+{
+    let p = TypeLib::parse(s);
+    let lib = p.lib;
+    let left = TypeInfoCursor { index }.size_hint(lib);
+    reply::lay(p.number, rows::of_size(UsizeAnswer::Value(left)), out)
 }

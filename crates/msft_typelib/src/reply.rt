@@ -9,20 +9,23 @@ use records::answer::I32Answer;
 use records::answer::U8Answer;
 use records::answer::U16Answer;
 use records::answer::U32Answer;
+use records::answer::UsizeAnswer;
 use records::typeinfo::KindAnswer;
 use records::types::TypeKind;
 use typelib::TypeLib;
 use typelib::typeinfos::OffsetAnswer;
 ghost use mathlib.Core.Bool.{cond};
 ghost use mathlib.Core.Path.{_≡_};
+ghost use Prim.Native.Nat.{_^_};
 ghost use lib.IntN.{pos, negℤ};
 ghost use mir.Syntax.{w16, w64};
 ghost use mir.Val.{toZ, ofZ};
 ghost use Rattle.records.specs.Answer.{map};
-ghost use Rattle.records.specs.Told.{toldBool, toldI16, toldI32, toldKind, toldU16, toldU32, toldU8};
+ghost use Rattle.records.specs.Told.{toldBool, toldI16, toldI32, toldKind, toldU16, toldU32, toldU8, toldUsize};
 ghost use Rattle.typelib.specs.Told.{toldOffset};
 ghost use Rattle.msft_typelib.specs.Call.{refusalOf, after, reply, bits16, bits32, truth, kindNumber, outcome, laid};
 ghost use Rattle.msft_typelib.specs.LayLaws.{startOf};
+ghost use Rattle.msft_typelib.specs.Written.{below};
 ghost use Rattle.msft_typelib.specs.Told.{toldRow};
 
 // A refusal's reply.
@@ -169,6 +172,22 @@ pub fn kind_number(kind: TypeKind) -> u8
         TypeKind::Alias => 6,
         TypeKind::Union => 7,
         TypeKind::Unknown(n) => n,
+    }
+}
+
+// How many bytes were written, or the refusal. (No output has 2^63 bytes.)
+pub fn of_written(a: UsizeAnswer) -> i64
+    ensures { λ r. ⌜ toZ w64 (ofZ w64 r) ≡ reply (map (below (2 ^ 63)) (toldUsize a)) ⌝ }
+{
+    match a {
+        UsizeAnswer::Value(n) => {
+            if n < 0x8000_0000_0000_0000 {
+                n as i64
+            } else {
+                0
+            }
+        }
+        UsizeAnswer::Refused(n) => minus(n),
     }
 }
 

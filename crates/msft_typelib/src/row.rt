@@ -18,7 +18,7 @@ ghost use Rattle.describe.specs.Constants.{numberIn, placeIn};
 ghost use Rattle.emit.specs.Emit.{Emitted};
 ghost use Rattle.sheet_constants.specs.Told.{toldContent, toldShape};
 ghost use Rattle.msft_typelib.specs.Told.{numbersOf, toldRow};
-ghost use Rattle.msft_typelib.specs.Values.{eights, place, optPlace, reference, span, contentBytes, constant, nameEntry, nameCursor, cursor};
+ghost use Rattle.msft_typelib.specs.Values.{eights, place, optPlace, reference, span, contentBytes, constant, nameEntry, nameNumbers, cursor};
 
 // Numbers of eight bytes each.
 pub enum Longs {
@@ -189,7 +189,7 @@ fn put_entry(out: &mut [u8], to: Put, e: NameEntry) -> Put
 
 // The entry, and the cursor behind it.
 fn put_name_step(out: &mut [u8], to: Put, e: NameEntry, c: NameCursor) -> Put
-    ensures { λ r. ⌜ Emitted (value (nameEntry e ++ cursor nameCursor c)) to (now (out .entry)) r (now (out .exit)) ⌝ }
+    ensures { λ r. ⌜ Emitted (value (nameEntry e ++ cursor nameNumbers c)) to (now (out .entry)) r (now (out .exit)) ⌝ }
 {
     let t = put_entry(out, to, e);
     put_longs(

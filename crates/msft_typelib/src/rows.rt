@@ -45,7 +45,7 @@ ghost use Rattle.typelib.specs.Chain.{toldImplTypeStep, toldImplTypes, toldWalk
 ghost use Rattle.typelib.specs.Cursors.{yielded};
 ghost use Rattle.typelib.specs.Told.{toldArrayDesc, toldConst, toldDescription, toldFuncStep, toldFuncs, toldGuidStep, toldImpFile, toldImpFileStep, toldImportStep, toldIndex, toldNameStep, toldPair, toldParamStep, toldParams, toldHreftype, toldResolved, toldTypeInfo, toldTypeInfoStep, toldVarStep, toldVars};
 ghost use Rattle.msft_typelib.specs.Told.{toldRow};
-ghost use Rattle.msft_typelib.specs.Values.{bound, chainCursor, chainStep, constant, cursor, description, funcCursor, guidCursor, impFileCursor, importCursor, nameCursor, entryStep, pair, paramCursor, place, reference, size, step, typeinfoCursor, varCursor};
+ghost use Rattle.msft_typelib.specs.Values.{bound, chainCursor, chainStep, constant, cursor, description, funcNumbers, guidNumbers, impFileNumbers, importNumbers, nameNumbers, entryStep, pair, paramNumbers, place, reference, size, step, typeinfoNumbers, varNumbers};
 
 pub fn of_place(a: PlaceAnswer) -> Row
     ensures { λ r. ⌜ toldRow r ≡ map place (toldPlace a) ⌝ }
@@ -201,7 +201,7 @@ fn resolved(x: ResolvedHreftype) -> Row
 }
 
 pub fn of_funcs(a: FuncsAnswer) -> Row
-    ensures { λ r. ⌜ toldRow r ≡ map (cursor funcCursor) (toldFuncs a) ⌝ }
+    ensures { λ r. ⌜ toldRow r ≡ map (cursor funcNumbers) (toldFuncs a) ⌝ }
 {
     match a {
         FuncsAnswer::Value(c) => Row::Plain(Longs::Three(
@@ -214,7 +214,7 @@ pub fn of_funcs(a: FuncsAnswer) -> Row
 }
 
 pub fn of_vars(a: VarsAnswer) -> Row
-    ensures { λ r. ⌜ toldRow r ≡ map (cursor varCursor) (toldVars a) ⌝ }
+    ensures { λ r. ⌜ toldRow r ≡ map (cursor varNumbers) (toldVars a) ⌝ }
 {
     match a {
         VarsAnswer::Value(c) => Row::Plain(Longs::Three(
@@ -227,7 +227,7 @@ pub fn of_vars(a: VarsAnswer) -> Row
 }
 
 pub fn of_params(a: ParamsAnswer) -> Row
-    ensures { λ r. ⌜ toldRow r ≡ map (cursor paramCursor) (toldParams a) ⌝ }
+    ensures { λ r. ⌜ toldRow r ≡ map (cursor paramNumbers) (toldParams a) ⌝ }
 {
     match a {
         ParamsAnswer::Value(c) => Row::Plain(Longs::Three(
@@ -240,37 +240,37 @@ pub fn of_params(a: ParamsAnswer) -> Row
 }
 
 pub fn of_guids(c: GuidCursor) -> Row
-    ensures { λ r. ⌜ toldRow r ≡ value (cursor guidCursor c) ⌝ }
+    ensures { λ r. ⌜ toldRow r ≡ value (cursor guidNumbers c) ⌝ }
 {
     Row::Plain(Longs::Two(c.pos as u64, c.end as u64))
 }
 
 pub fn of_imports(c: ImportCursor) -> Row
-    ensures { λ r. ⌜ toldRow r ≡ value (cursor importCursor c) ⌝ }
+    ensures { λ r. ⌜ toldRow r ≡ value (cursor importNumbers c) ⌝ }
 {
     Row::Plain(Longs::Two(c.pos as u64, c.end as u64))
 }
 
 pub fn of_imp_files(c: ImpFileCursor) -> Row
-    ensures { λ r. ⌜ toldRow r ≡ value (cursor impFileCursor c) ⌝ }
+    ensures { λ r. ⌜ toldRow r ≡ value (cursor impFileNumbers c) ⌝ }
 {
     Row::Plain(Longs::Two(c.pos as u64, c.end as u64))
 }
 
 pub fn of_names(c: NameCursor) -> Row
-    ensures { λ r. ⌜ toldRow r ≡ value (cursor nameCursor c) ⌝ }
+    ensures { λ r. ⌜ toldRow r ≡ value (cursor nameNumbers c) ⌝ }
 {
     Row::Plain(Longs::Three(c.pos as u64, c.end as u64, c.start as u64))
 }
 
 pub fn of_typeinfos(c: TypeInfoCursor) -> Row
-    ensures { λ r. ⌜ toldRow r ≡ value (cursor typeinfoCursor c) ⌝ }
+    ensures { λ r. ⌜ toldRow r ≡ value (cursor typeinfoNumbers c) ⌝ }
 {
     Row::Plain(Longs::One(c.index as u64))
 }
 
 pub fn of_func_step(a: FuncStep) -> Row
-    ensures { λ r. ⌜ toldRow r ≡ step funcCursor (toldFuncStep a) ⌝ }
+    ensures { λ r. ⌜ toldRow r ≡ step funcNumbers (toldFuncStep a) ⌝ }
 {
     match a {
         FuncStep::Record(p, c) => Row::Plain(Longs::Five(
@@ -285,7 +285,7 @@ pub fn of_func_step(a: FuncStep) -> Row
 }
 
 pub fn of_var_step(a: VarStep) -> Row
-    ensures { λ r. ⌜ toldRow r ≡ step varCursor (toldVarStep a) ⌝ }
+    ensures { λ r. ⌜ toldRow r ≡ step varNumbers (toldVarStep a) ⌝ }
 {
     match a {
         VarStep::Record(p, c) => Row::Plain(Longs::Five(
@@ -300,7 +300,7 @@ pub fn of_var_step(a: VarStep) -> Row
 }
 
 pub fn of_param_step(a: ParamStep) -> Row
-    ensures { λ r. ⌜ toldRow r ≡ step paramCursor (toldParamStep a) ⌝ }
+    ensures { λ r. ⌜ toldRow r ≡ step paramNumbers (toldParamStep a) ⌝ }
 {
     match a {
         ParamStep::Record(p, c) => Row::Plain(Longs::Five(
@@ -315,7 +315,7 @@ pub fn of_param_step(a: ParamStep) -> Row
 }
 
 pub fn of_guid_step(a: GuidStep) -> Row
-    ensures { λ r. ⌜ toldRow r ≡ step guidCursor (toldGuidStep a) ⌝ }
+    ensures { λ r. ⌜ toldRow r ≡ step guidNumbers (toldGuidStep a) ⌝ }
 {
     match a {
         GuidStep::Record(p, c) => Row::Plain(Longs::Four(
@@ -329,7 +329,7 @@ pub fn of_guid_step(a: GuidStep) -> Row
 }
 
 pub fn of_import_step(a: ImportStep) -> Row
-    ensures { λ r. ⌜ toldRow r ≡ step importCursor (toldImportStep a) ⌝ }
+    ensures { λ r. ⌜ toldRow r ≡ step importNumbers (toldImportStep a) ⌝ }
 {
     match a {
         ImportStep::Record(p, c) => Row::Plain(Longs::Four(
@@ -343,7 +343,7 @@ pub fn of_import_step(a: ImportStep) -> Row
 }
 
 pub fn of_imp_file_step(a: ImpFileStep) -> Row
-    ensures { λ r. ⌜ toldRow r ≡ step impFileCursor (toldImpFileStep a) ⌝ }
+    ensures { λ r. ⌜ toldRow r ≡ step impFileNumbers (toldImpFileStep a) ⌝ }
 {
     match a {
         ImpFileStep::Record(p, c) => Row::Plain(Longs::Four(
@@ -357,7 +357,7 @@ pub fn of_imp_file_step(a: ImpFileStep) -> Row
 }
 
 pub fn of_typeinfo_step(a: TypeInfoStep) -> Row
-    ensures { λ r. ⌜ toldRow r ≡ step typeinfoCursor (toldTypeInfoStep a) ⌝ }
+    ensures { λ r. ⌜ toldRow r ≡ step typeinfoNumbers (toldTypeInfoStep a) ⌝ }
 {
     match a {
         TypeInfoStep::Record(p, c) => Row::Plain(Longs::Three(

@@ -43,7 +43,7 @@ minus-requires-2 c κs = search needs
 
 -- src/reply.rt:130:1
 returns-2 : tie.Need-returns-2
-returns-2 c = valued (λ a. bits32 (toldOffset a)) _ _ (omega arith) (PIF .left) (PA .given .1) (ap value (back w32 (PA .given .0 .0 .0) (PS .given .0 .1) (c .unsigned32 .ensures)))
+returns-2 c = valued (λ a. bits32 (toldOffset a)) _ _ (omega arith) (c .before .before .before .before .before .if1 .left) (c .before .before .before .a .given .1) (ap value (back w32 (c .before .before .before .a .given .0 .0 .0) (c .before .struct-told .given .0 .1) (c .unsigned32 .ensures)))
 
 -- src/reply.rt:130:1
 returns-3 : tie.Need-returns-3

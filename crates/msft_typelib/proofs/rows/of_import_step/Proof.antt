@@ -1,5 +1,5 @@
 use Rattle.msft_typelib.specs.Values.{step}
-use Rattle.msft_typelib.specs.Values.{importCursor}
+use Rattle.msft_typelib.specs.Values.{importNumbers}
 use Rattle.typelib.specs.Told.{toldImportStep}
 use Rattle.msft_typelib.specs.LayLaws.{shown}
 use borrow.Author.Needs.{needs}
@@ -18,11 +18,11 @@ enum-known-a-2 c = search needs
 
 -- src/rows.rt:331:1
 returns : tie.Need-returns
-returns c = shown (λ a. step importCursor (toldImportStep a)) (c .before .a .given .1)
+returns c = shown (λ a. step importNumbers (toldImportStep a)) (c .before .a .given .1)
 
 -- src/rows.rt:331:1
 returns-2 : tie.Need-returns-2
-returns-2 c = shown (λ a. step importCursor (toldImportStep a)) (c .before .a2 .given .1)
+returns-2 c = shown (λ a. step importNumbers (toldImportStep a)) (c .before .a2 .given .1)
 
 pub of-import-step-spec : {M : Type 1} → statement M
 of-import-step-spec = tie.close (tie.spec enum-known-a enum-known-a-2 returns returns-2)

@@ -1,4 +1,4 @@
-use Rattle.msft_typelib.specs.Values.{paramCursor}
+use Rattle.msft_typelib.specs.Values.{paramNumbers}
 use Rattle.msft_typelib.specs.Values.{cursor}
 use Rattle.typelib.specs.Told.{toldParams}
 use Rattle.records.specs.Answer.{map}
@@ -19,11 +19,11 @@ enum-known-a-2 c = search needs
 
 -- src/rows.rt:229:1
 returns : tie.Need-returns
-returns c = shown (λ a. map (cursor paramCursor) (toldParams a)) (c .before .a .given .1)
+returns c = shown (λ a. map (cursor paramNumbers) (toldParams a)) (c .before .a .given .1)
 
 -- src/rows.rt:229:1
 returns-2 : tie.Need-returns-2
-returns-2 c = shown (λ a. map (cursor paramCursor) (toldParams a)) (c .before .a2 .given .1)
+returns-2 c = shown (λ a. map (cursor paramNumbers) (toldParams a)) (c .before .a2 .given .1)
 
 pub of-params-spec : {M : Type 1} → statement M
 of-params-spec = tie.close (tie.spec enum-known-a enum-known-a-2 returns returns-2)

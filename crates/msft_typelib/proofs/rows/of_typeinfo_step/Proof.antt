@@ -1,4 +1,4 @@
-use Rattle.msft_typelib.specs.Values.{typeinfoCursor}
+use Rattle.msft_typelib.specs.Values.{typeinfoNumbers}
 use Rattle.msft_typelib.specs.Values.{step}
 use Rattle.typelib.specs.Told.{toldTypeInfoStep}
 use Rattle.msft_typelib.specs.LayLaws.{shown}
@@ -18,11 +18,11 @@ enum-known-a-2 c = search needs
 
 -- src/rows.rt:359:1
 returns : tie.Need-returns
-returns c = shown (λ a. step typeinfoCursor (toldTypeInfoStep a)) (c .before .a .given .1)
+returns c = shown (λ a. step typeinfoNumbers (toldTypeInfoStep a)) (c .before .a .given .1)
 
 -- src/rows.rt:359:1
 returns-2 : tie.Need-returns-2
-returns-2 c = shown (λ a. step typeinfoCursor (toldTypeInfoStep a)) (c .before .a2 .given .1)
+returns-2 c = shown (λ a. step typeinfoNumbers (toldTypeInfoStep a)) (c .before .a2 .given .1)
 
 pub of-typeinfo-step-spec : {M : Type 1} → statement M
 of-typeinfo-step-spec = tie.close (tie.spec enum-known-a enum-known-a-2 returns returns-2)
