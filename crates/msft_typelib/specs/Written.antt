@@ -9,11 +9,12 @@ use lib.IntN.{ℤ, pos, negℤ}
 use lib.ListN.{length}
 use mir.Syntax.{w64}
 use mir.Val.{toZ, ofZ}
+use mir.ValLaws.{toZ-ofZ}
 use borrow.Author.Tests.{lt-ltb, le-ltb, leb-true}
 use Rattle.records.specs.Answer.{Answer, value, refused, map}
 use Rattle.records.specs.Text.{fitted, fronted, Laid}
 use Rattle.msft_typelib.specs.Call.{after, reply, Outcome, outcome, laid}
-use Rattle.msft_typelib.specs.CallLaws.{minus-back, pos-back, after-none, after-some}
+use Rattle.msft_typelib.specs.CallLaws.{minus-fits, minus-back, pos-back, after-none, after-some}
 
 -- the number, or 0 where it is m or more
 abbrev pub below : ℕ → ℕ → ℕ
@@ -45,10 +46,11 @@ behind n x o h e = e ∙ ap (λ (a : Answer (List ℕ)). laid a o) (after-none n
 
 -- `parse` refused
 pub before : (n : ℕ) (x : Answer (List ℕ)) (o : List ℕ) {z : ℤ} → n < 256 → (n ≡ 0 → ⊥) → z ≡ negℤ (pos n)
-    → outcome (toZ w64 (ofZ w64 (toZ w64 (ofZ w64 z)))) o ≡ laid (after n x) o
+    → outcome (toZ w64 (ofZ w64 z)) o ≡ laid (after n x) o
 unfolding laid fitted fronted reply
-before n x o h k e =
-    ap (λ (z : ℤ). outcome z o) (minus-back n h e) ∙ ap (λ (a : Answer (List ℕ)). laid a o) (after-some n x k)
+before n x o {z} h k e =
+    let q : toZ w64 (ofZ w64 z) ≡ negℤ (pos n) = rw e (toZ-ofZ w64 (negℤ (pos n)) (minus-fits n h)) in
+    ap (λ (z : ℤ). outcome z o) q ∙ ap (λ (a : Answer (List ℕ)). laid a o) (after-some n x k)
 
 -- ---- the reply for what was written
 

@@ -1,3 +1,4 @@
+use Rattle.records.specs.Guid.{guidText}
 use Rattle.msft_typelib.specs.Written.{before, behind, written}
 use native.Mathlib.Omega.{arith}
 use borrow.Author.Needs.{needs}
@@ -20,7 +21,7 @@ minus-requires c κs = search needs
 
 -- src/guid.rt:65:9
 returns : tie.Need-returns
-returns c = ?
+returns c = rw (← c .before .before .refusal .ensures) (before (c .before .before .refusal .result) (guidText (c .before .before .before .before .before .args .s .now) (c .before .before .before .before .before .args .at) (c .before .before .before .before .before .args .len)) (c .before .before .before .before .before .args .out .now) (omega arith) (c .before .if1 .taken) (c .minus .ensures))
 
 -- src/guid.rt:67:23
 text-requires : tie.Need-text-requires
@@ -36,7 +37,7 @@ same-length c = search needs
 
 -- src/guid.rt:59:1
 returns-2 : tie.Need-returns-2
-returns-2 c = ?
+returns-2 c = rw (← c .before .before .before .before .before .before .refusal .ensures) (behind (c .before .before .before .before .before .before .refusal .result) (guidText (c .before .before .before .before .before .before .before .before .before .args .s .now) (c .before .before .before .before .before .before .before .before .before .args .at) (c .before .before .before .before .before .before .before .before .before .args .len)) (c .before .before .before .before .before .before .before .before .before .args .out .now) (c .before .before .before .before .before .if1 .left) (written (c .before .before .before .before .before .before .before .before .before .args .out .now) (omega arith) (guidText (c .before .before .before .before .before .before .before .before .before .args .s .now) (c .before .before .before .before .before .before .before .before .before .args .at) (c .before .before .before .before .before .before .before .before .before .args .len)) (c .before .before .before .text .ensures) (c .of-written .ensures)))
 
 pub msft-guid-text-spec : {M : Type 1} → statement M
 msft-guid-text-spec =

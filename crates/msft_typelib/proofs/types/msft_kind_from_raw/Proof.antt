@@ -1,4 +1,5 @@
-use Rattle.msft_typelib.specs.CallLaws.{pos-back}
+use mir.ValLaws.{toZ-pos}
+use mir.Syntax.{w64}
 use Rattle.msft_typelib.specs.Call.{reply, kindNumber}
 use lib.IntN.{pos}
 use native.Mathlib.Omega.{arith}
@@ -26,7 +27,7 @@ cast-result c = search needs
 -- src/types.rt:11:1
 returns : tie.Need-returns
 unfolding reply
-returns c = pos-back (c .kind-number .result) (omega arith) ∙ ap pos (c .kind-number .ensures ∙ ap kindNumber (c .before .from-raw .ensures))
+returns c = toZ-pos w64 (c .kind-number .result) (omega arith) ∙ ap pos (c .kind-number .ensures ∙ ap kindNumber (c .before .from-raw .ensures))
 
 pub msft-kind-from-raw-spec : {M : Type 1} → statement M
 msft-kind-from-raw-spec =

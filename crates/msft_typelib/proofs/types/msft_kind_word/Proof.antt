@@ -1,3 +1,5 @@
+use Rattle.msft_typelib.specs.Call.{laid}
+use mathlib.Core.Path.{_∙_}
 use Rattle.msft_typelib.specs.Written.{written}
 use Rattle.records.specs.Types.{kindWord}
 use Rattle.records.specs.Answer.{value}
@@ -30,7 +32,7 @@ same-length c = search needs
 
 -- src/types.rt:19:1
 returns : tie.Need-returns
-returns c = ?
+returns c = written (c .before .before .before .before .before .before .before .args .out .now) (omega arith) (value (kindWord (c .before .before .before .before .before .from-raw .result))) (c .before .before .before .word .ensures) (c .of-written .ensures) ∙ ap (λ k. laid (value (kindWord k)) (c .before .before .before .before .before .before .before .args .out .now)) (c .before .before .before .before .before .from-raw .ensures)
 
 pub msft-kind-word-spec : {M : Type 1} → statement M
 msft-kind-word-spec =
