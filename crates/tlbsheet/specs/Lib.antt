@@ -1,2 +1,2 @@
-pub mod Line
-pub mod LineLaws
+pub mod Program
+pub mod ProgramLaws

@@ -3,7 +3,7 @@ ghost use mathlib.Core.Path.{_≡_};
 ghost use Prim.Native.Nat.{_+_, _*_, _<_};
 ghost use lib.ListN.{length};
 ghost use lib.Seq.{sets};
-ghost use Rattle.tlbsheet.specs.Line.{digit as Line·digit, lineOf};
+ghost use Rattle.tlbsheet.specs.Program.{digit as Program·digit, lineOf};
 
 const DIGITS: [u8; 16] = *b"0123456789abcdef";
 
@@ -29,7 +29,7 @@ pub(crate) fn put_line(s: &[u8], out: &mut [u8]) -> usize
 
 // The digit for a number below 16; 0 for any other.
 fn digit(d: u8) -> u8
-    ensures { λ r. ⌜ r ≡ Line·digit d ⌝ }
+    ensures { λ r. ⌜ r ≡ Program·digit d ⌝ }
 {
     if d < 16 { DIGITS[d as usize] } else { 0 }
 }

@@ -7,6 +7,8 @@ use libc::STDOUT_FILENO;
 use records::answer::UsizeAnswer;
 ghost use mathlib.Core.Path.{_≡_};
 ghost use lib.ListN.{take};
+ghost use Rattle.records.specs.Told.{toldUsize};
+ghost use Rattle.tlbsheet.specs.Program.{Replied};
 
 // The most bytes of input. More fill the room for it, which has one byte more.
 const MOST: usize = 65_536;
@@ -34,7 +36,9 @@ fn fill(input: &mut [u8; INPUT_ROOM]) -> usize {
 }
 
 // The sheet of the first `size` bytes of the input.
-fn answer_to(input: &[u8; INPUT_ROOM], size: usize, output: &mut [u8; SHEET_ROOM]) -> UsizeAnswer {
+fn answer_to(input: &[u8; INPUT_ROOM], size: usize, output: &mut [u8; SHEET_ROOM]) -> UsizeAnswer
+    ensures { λ r. ⌜ Replied (now (input .entry)) size (now (output .entry)) (toldUsize r) (now (output .exit)) ⌝ }
+{
     if MOST < size {
         return UsizeAnswer::Refused(1);
     }

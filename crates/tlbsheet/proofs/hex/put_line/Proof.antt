@@ -4,8 +4,8 @@ use native.Mathlib.Omega.{arith}
 use lib.ListN.{length, drop, length-set}
 use lib.Seq.{sets}
 use borrow.Author.Needs.{needs}
-use Rattle.tlbsheet.specs.Line.{lineOf}
-use Rattle.tlbsheet.specs.LineLaws.{length-line, line-less, line-none}
+use Rattle.tlbsheet.specs.Program.{lineOf}
+use Rattle.tlbsheet.specs.ProgramLaws.{length-line, line-less, line-none}
 use Rattle.tlbsheet.proofs.hex.put_line.Statement.{statement}
 use Rattle.tlbsheet.proofs.hex.put_line.Tie as tie
 

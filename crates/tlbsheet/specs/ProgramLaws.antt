@@ -1,12 +1,25 @@
--- Laws of the line, for the loop that writes it. Assumes nothing.
-use mathlib.Core.Path.{_≡_, refl, ap}
+-- Laws of what is replied, and of the line, for the loop that writes it. Assumes nothing.
+use mathlib.Core.Path.{_≡_, refl, sym, subst}
 use mathlib.Core.List.{List, [], _∷_}
 use Prim.Native.Nat.{ℕ, suc, _+_, _*_, _/_, _%_, _≤_, _<_}
 use native.Mathlib.Numerals.{add-one}
 use native.Mathlib.Omega.{arith}
-use lib.ListN.{length, getD, set, drop, drop-of-length-le}
+use lib.ListN.{length, getD, set, take, drop, drop-of-length-le}
 use lib.Seq.{sets, drop-cons}
-use Rattle.tlbsheet.specs.Line.{digit, lineOf}
+use Rattle.records.specs.Answer.{Answer, refused}
+use Rattle.description.specs.Sheet.{edition-one}
+use Rattle.describe.specs.Call.{Call}
+use Rattle.tlbsheet.specs.Program.{Replied, digit, lineOf}
+
+module _ {input o : List ℕ} {size : ℕ} where
+  pub replied-more : 65536 < size → Replied input size o (refused 1) o
+  replied-more h = record { more = λ _. (refl, refl); fewer = λ k. absurd (omega arith) }
+
+  pub replied-fewer : {front o′ : List ℕ} {r : Answer ℕ} → size ≤ 65536 → front ≡ take size input → Call edition-one front o r o′ → Replied input size o r o′
+  replied-fewer {o′ = o′} {r = r} h e call = record {
+    more = λ k. absurd (omega arith);
+    fewer = λ _. subst (λ (f : List ℕ). Call edition-one f o r o′) e call;
+  }
 
 pub length-line : (l : List ℕ) → length (lineOf l) ≡ 2 * length l + 1
 unfolding lineOf
