@@ -28,7 +28,7 @@ unfoldable pub after : {A : Type 0} → ℕ → Answer A → Answer A
 after zero a = a
 after (suc n) a = refused (suc n)
 
--- THE ANSWER BEHIND `parse`: where that refuses, its refusal (`past-value` and `past-refused` of `CallLaws`)
+-- THE ANSWER BEHIND `parse`: where that refuses, its refusal (`past-value` and `past-refused` of `ParseLaws`)
 abbrev pub past : {A : Type 0} → List ℕ → Answer A → Answer A
 past s a = after (refusalOf s) a
 

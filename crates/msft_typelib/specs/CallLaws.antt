@@ -11,7 +11,7 @@ use mir.ValLaws.{toZ-ofZ, toZ-pos}
 use Rattle.records.specs.Answer.{Answer, value, refused}
 use Rattle.typelib.specs.declared.Parsed.{Parsed}
 use Rattle.typelib.specs.Header.{parseOf, parsed}
-use Rattle.msft_typelib.specs.Call.{refusalOf, libraryIn, after, reply}
+use Rattle.msft_typelib.specs.Call.{refusalOf, libraryIn, after, reply, Outcome, laid}
 
 -- ---- a reply is an i64, which the machine reads back from its bits
 
@@ -71,3 +71,12 @@ module _ {E : Type 0} (told : E → Answer ℕ) (number : ℕ) (a : E) where
       → toZ w64 (ofZ w64 (toZ w64 (ofZ w64 z))) ≡ reply (after number (told a))
   unfolding reply
   declined {e} {n} h z g k m = minus-back n h m ∙ ap reply (k ∙ ap told (sym g) ∙ after-none number (told a) z)
+
+-- ---- an export: what it calls replies or lays out, by the definitions that are cited
+
+pub replied : {n m : ℕ} {x y : Answer ℕ} {z : ℤ} → z ≡ reply (after n x) → n ≡ m → x ≡ y → z ≡ reply (after m y)
+replied {n} {m} {x} {y} e f g = e ∙ ap (λ (k : ℕ). reply (after k x)) f ∙ ap (λ (a : Answer ℕ). reply (after m a)) g
+
+pub laid-as : (o : List ℕ) {n m : ℕ} {x y : Answer (List ℕ)} {w : Outcome} → w ≡ laid (after n x) o → n ≡ m → x ≡ y → w ≡ laid (after m y) o
+laid-as o {n} {m} {x} {y} e f g =
+    e ∙ ap (λ (k : ℕ). laid (after k x) o) f ∙ ap (λ (a : Answer (List ℕ)). laid (after m a) o) g

@@ -4,6 +4,7 @@ pub mod Values
 pub mod At
 pub mod Told
 pub mod CallLaws
+pub mod ParseLaws
 pub mod LayLaws
 pub mod RowLaws
 pub mod Written

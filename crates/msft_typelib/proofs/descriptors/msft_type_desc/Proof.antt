@@ -1,6 +1,9 @@
+use Rattle.msft_typelib.specs.CallLaws.{laid-as, library-is, number-is}
+use Rattle.msft_typelib.specs.Values.{pair}
+use Rattle.records.specs.Answer.{map}
+use mathlib.Core.Path.{_∙_, ap, refl}
 use mir.Syntax.{w32}
 use mir.ValLaws.{toZ-ofZ}
-use Rattle.msft_typelib.specs.CallLaws.{library-is, number-is}
 use borrow.Author.Needs.{needs}
 use Rattle.msft_typelib.proofs.descriptors.msft_type_desc.Statement.{statement}
 use Rattle.msft_typelib.proofs.descriptors.msft_type_desc.Tie as tie
@@ -10,4 +13,4 @@ msft-type-desc-spec =
     tie.close
     (tie.spec
     (λ c κs. search needs) (λ c κs. search needs) (λ c κs. search needs) (λ c κs. search needs) (λ c. search needs)
-    (λ c. let h = rw (toZ-ofZ w32 (c .before .before .before .before .before .before .before .before .before .before .args .offset) (c .before .before .before .before .before .before .before .before .before .before .fits .offset)) at (c .before .before .before .before .before .type-desc .ensures) in rw (library-is (c .before .before .before .before .before .before .before .before .before .before .args .s .now) (c .before .before .before .before .before .before .before .parse .result) (c .before .before .before .before .before .before .before .parse .ensures), number-is (c .before .before .before .before .before .before .before .before .before .before .args .s .now) (c .before .before .before .before .before .before .before .parse .result) (c .before .before .before .before .before .before .before .parse .ensures)) (cc)))
+    (λ c. let h = rw (toZ-ofZ w32 (c .before .before .before .before .before .before .before .before .before .before .args .offset) (c .before .before .before .before .before .before .before .before .before .before .fits .offset)) at (c .before .before .before .before .before .type-desc .ensures) in rw (library-is (c .before .before .before .before .before .before .before .before .before .before .args .s .now) (c .before .before .before .before .before .before .before .parse .result) (c .before .before .before .before .before .before .before .parse .ensures), number-is (c .before .before .before .before .before .before .before .before .before .before .args .s .now) (c .before .before .before .before .before .before .before .parse .result) (c .before .before .before .before .before .before .before .parse .ensures)) (laid-as _ (c .before .before .lay .ensures) refl (c .before .before .before .before .of-pair .ensures ∙ ap (map pair) (h)))))

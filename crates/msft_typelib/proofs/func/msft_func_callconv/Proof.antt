@@ -1,3 +1,4 @@
+use Rattle.msft_typelib.specs.CallLaws.{replied}
 use borrow.Author.Needs.{needs}
 use Rattle.msft_typelib.proofs.func.msft_func_callconv.Statement.{statement}
 use Rattle.msft_typelib.proofs.func.msft_func_callconv.Tie as tie
@@ -7,4 +8,4 @@ msft-func-callconv-spec =
     tie.close
     (tie.spec
     (λ c κs. search needs) (λ c κs. search needs) (λ c κs. search needs)
-    (λ c. cc))
+    (λ c. replied (c .of-u8 .ensures) (c .before .before .refusal .ensures) (c .before .callconv .ensures)))

@@ -1,3 +1,6 @@
+use Rattle.msft_typelib.specs.Call.{bits16}
+use Rattle.msft_typelib.specs.CallLaws.{replied}
+use mathlib.Core.Path.{ap}
 use borrow.Author.Needs.{needs}
 use Rattle.msft_typelib.proofs.func.msft_func_funcdesc_size.Statement.{statement}
 use Rattle.msft_typelib.proofs.func.msft_func_funcdesc_size.Tie as tie
@@ -7,4 +10,4 @@ msft-func-funcdesc-size-spec =
     tie.close
     (tie.spec
     (λ c κs. search needs) (λ c κs. search needs) (λ c κs. search needs)
-    (λ c. cc))
+    (λ c. replied (c .of-i16 .ensures) (c .before .before .refusal .ensures) (ap bits16 (c .before .funcdesc-size .ensures))))

@@ -1,3 +1,6 @@
+use Rattle.msft_typelib.specs.Call.{truth}
+use Rattle.msft_typelib.specs.CallLaws.{replied}
+use mathlib.Core.Path.{ap}
 use borrow.Author.Needs.{needs}
 use Rattle.msft_typelib.proofs.func.msft_func_has_cust_data.Statement.{statement}
 use Rattle.msft_typelib.proofs.func.msft_func_has_cust_data.Tie as tie
@@ -7,4 +10,4 @@ msft-func-has-cust-data-spec =
     tie.close
     (tie.spec
     (λ c κs. search needs) (λ c κs. search needs) (λ c κs. search needs)
-    (λ c. cc))
+    (λ c. replied (c .of-bool .ensures) (c .before .before .refusal .ensures) (ap truth (c .before .has-cust-data .ensures))))

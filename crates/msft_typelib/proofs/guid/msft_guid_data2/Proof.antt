@@ -1,3 +1,4 @@
+use Rattle.msft_typelib.specs.CallLaws.{replied}
 use borrow.Author.Needs.{needs}
 use Rattle.msft_typelib.proofs.guid.msft_guid_data2.Statement.{statement}
 use Rattle.msft_typelib.proofs.guid.msft_guid_data2.Tie as tie
@@ -7,4 +8,4 @@ msft-guid-data2-spec =
     tie.close
     (tie.spec
     (λ c κs. search needs) (λ c κs. search needs) (λ c κs. search needs)
-    (λ c. cc))
+    (λ c. replied (c .of-u16 .ensures) (c .before .before .refusal .ensures) (c .before .data2 .ensures)))

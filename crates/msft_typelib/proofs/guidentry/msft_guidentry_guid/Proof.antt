@@ -1,3 +1,7 @@
+use Rattle.msft_typelib.specs.CallLaws.{laid-as}
+use Rattle.msft_typelib.specs.Values.{place}
+use Rattle.records.specs.Answer.{map}
+use mathlib.Core.Path.{_∙_, ap}
 use borrow.Author.Needs.{needs}
 use Rattle.msft_typelib.proofs.guidentry.msft_guidentry_guid.Statement.{statement}
 use Rattle.msft_typelib.proofs.guidentry.msft_guidentry_guid.Tie as tie
@@ -7,4 +11,4 @@ msft-guidentry-guid-spec =
     tie.close
     (tie.spec
     (λ c κs. search needs) (λ c κs. search needs) (λ c κs. search needs) (λ c κs. search needs) (λ c. search needs)
-    (λ c. cc))
+    (λ c. laid-as _ (c .before .before .lay .ensures) (c .before .before .before .before .before .before .refusal .ensures) (c .before .before .before .before .of-guid .ensures ∙ ap (map place) (c .before .before .before .before .before .guid .ensures))))

@@ -1,3 +1,6 @@
+use Rattle.msft_typelib.specs.Call.{bits32}
+use Rattle.msft_typelib.specs.CallLaws.{replied}
+use mathlib.Core.Path.{ap}
 use borrow.Author.Needs.{needs}
 use Rattle.msft_typelib.proofs.guidentry.msft_guidentry_next_hash.Statement.{statement}
 use Rattle.msft_typelib.proofs.guidentry.msft_guidentry_next_hash.Tie as tie
@@ -7,4 +10,4 @@ msft-guidentry-next-hash-spec =
     tie.close
     (tie.spec
     (λ c κs. search needs) (λ c κs. search needs) (λ c κs. search needs)
-    (λ c. cc))
+    (λ c. replied (c .of-i32 .ensures) (c .before .before .refusal .ensures) (ap bits32 (c .before .next-hash .ensures))))

@@ -1,4 +1,5 @@
-use Rattle.msft_typelib.specs.CallLaws.{number-is}
+use Rattle.msft_typelib.specs.CallLaws.{number-is, replied}
+use mathlib.Core.Path.{refl}
 use borrow.Author.Needs.{needs}
 use Rattle.msft_typelib.proofs.header.msft_flags.Statement.{statement}
 use Rattle.msft_typelib.proofs.header.msft_flags.Tie as tie
@@ -8,4 +9,4 @@ msft-flags-spec =
     tie.close
     (tie.spec
     (λ c κs. search needs) (λ c κs. search needs) (λ c κs. search needs)
-    (λ c. rw (number-is (c .before .before .before .before .before .args .s .now) (c .before .before .before .parse .result) (c .before .before .before .parse .ensures)) (cc)))
+    (λ c. rw (number-is (c .before .before .before .before .before .args .s .now) (c .before .before .before .parse .result) (c .before .before .before .parse .ensures)) (replied (c .of-u32 .ensures) refl (c .before .flags .ensures))))

@@ -1,4 +1,6 @@
-use Rattle.msft_typelib.specs.CallLaws.{number-is}
+use Rattle.msft_typelib.specs.Call.{bits32}
+use Rattle.msft_typelib.specs.CallLaws.{number-is, replied}
+use mathlib.Core.Path.{ap, refl}
 use borrow.Author.Needs.{needs}
 use Rattle.msft_typelib.proofs.header.msft_helpstringcontext.Statement.{statement}
 use Rattle.msft_typelib.proofs.header.msft_helpstringcontext.Tie as tie
@@ -8,4 +10,4 @@ msft-helpstringcontext-spec =
     tie.close
     (tie.spec
     (λ c κs. search needs) (λ c κs. search needs) (λ c κs. search needs)
-    (λ c. rw (number-is (c .before .before .before .before .before .args .s .now) (c .before .before .before .parse .result) (c .before .before .before .parse .ensures)) (cc)))
+    (λ c. rw (number-is (c .before .before .before .before .before .args .s .now) (c .before .before .before .parse .result) (c .before .before .before .parse .ensures)) (replied (c .of-i32 .ensures) refl (ap bits32 (c .before .helpstringcontext .ensures)))))

@@ -1,3 +1,6 @@
+use Rattle.msft_typelib.specs.CallLaws.{laid-as}
+use Rattle.msft_typelib.specs.Values.{impFileNumbers, step}
+use mathlib.Core.Path.{_∙_, ap}
 use borrow.Author.Needs.{needs}
 use Rattle.msft_typelib.proofs.iterators.msft_imp_file_step.Statement.{statement}
 use Rattle.msft_typelib.proofs.iterators.msft_imp_file_step.Tie as tie
@@ -7,4 +10,4 @@ msft-imp-file-step-spec =
     tie.close
     (tie.spec
     (λ c κs. search needs) (λ c κs. search needs) (λ c κs. search needs) (λ c κs. search needs) (λ c. search needs)
-    (λ c. cc))
+    (λ c. laid-as _ (c .before .before .lay .ensures) (c .before .before .before .before .before .before .refusal .ensures) (c .before .before .before .before .of-imp-file-step .ensures ∙ ap (step impFileNumbers) (c .before .before .before .before .before .step .ensures))))

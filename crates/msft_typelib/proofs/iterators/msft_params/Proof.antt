@@ -1,4 +1,7 @@
-use Rattle.msft_typelib.specs.CallLaws.{number-is}
+use Rattle.msft_typelib.specs.CallLaws.{laid-as, number-is}
+use Rattle.msft_typelib.specs.Values.{cursor, paramNumbers}
+use Rattle.records.specs.Answer.{map}
+use mathlib.Core.Path.{_∙_, ap, refl}
 use borrow.Author.Needs.{needs}
 use Rattle.msft_typelib.proofs.iterators.msft_params.Statement.{statement}
 use Rattle.msft_typelib.proofs.iterators.msft_params.Tie as tie
@@ -8,4 +11,4 @@ msft-params-spec =
     tie.close
     (tie.spec
     (λ c κs. search needs) (λ c κs. search needs) (λ c κs. search needs) (λ c κs. search needs) (λ c. search needs)
-    (λ c. rw (number-is (c .before .before .before .before .before .before .before .before .before .before .args .s .now) (c .before .before .before .before .before .before .before .parse .result) (c .before .before .before .before .before .before .before .parse .ensures)) (cc)))
+    (λ c. rw (number-is (c .before .before .before .before .before .before .before .before .before .before .args .s .now) (c .before .before .before .before .before .before .before .parse .result) (c .before .before .before .before .before .before .before .parse .ensures)) (laid-as _ (c .before .before .lay .ensures) refl (c .before .before .before .before .of-params .ensures ∙ ap (map (cursor paramNumbers)) (c .before .before .before .before .before .params .ensures)))))

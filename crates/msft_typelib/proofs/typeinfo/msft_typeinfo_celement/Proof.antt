@@ -1,3 +1,4 @@
+use Rattle.msft_typelib.specs.CallLaws.{replied}
 use borrow.Author.Needs.{needs}
 use Rattle.msft_typelib.proofs.typeinfo.msft_typeinfo_celement.Statement.{statement}
 use Rattle.msft_typelib.proofs.typeinfo.msft_typeinfo_celement.Tie as tie
@@ -7,4 +8,4 @@ msft-typeinfo-celement-spec =
     tie.close
     (tie.spec
     (λ c κs. search needs) (λ c κs. search needs) (λ c κs. search needs)
-    (λ c. cc))
+    (λ c. replied (c .of-u32 .ensures) (c .before .before .refusal .ensures) (c .before .celement .ensures)))

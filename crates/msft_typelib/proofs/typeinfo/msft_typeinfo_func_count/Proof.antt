@@ -1,3 +1,4 @@
+use Rattle.msft_typelib.specs.CallLaws.{replied}
 use borrow.Author.Needs.{needs}
 use Rattle.msft_typelib.proofs.typeinfo.msft_typeinfo_func_count.Statement.{statement}
 use Rattle.msft_typelib.proofs.typeinfo.msft_typeinfo_func_count.Tie as tie
@@ -7,4 +8,4 @@ msft-typeinfo-func-count-spec =
     tie.close
     (tie.spec
     (λ c κs. search needs) (λ c κs. search needs) (λ c κs. search needs)
-    (λ c. cc))
+    (λ c. replied (c .of-u16 .ensures) (c .before .before .refusal .ensures) (c .before .func-count .ensures)))

@@ -1,3 +1,7 @@
+use Rattle.msft_typelib.specs.Call.{kindNumber}
+use Rattle.msft_typelib.specs.CallLaws.{replied}
+use Rattle.records.specs.Answer.{map}
+use mathlib.Core.Path.{ap}
 use borrow.Author.Needs.{needs}
 use Rattle.msft_typelib.proofs.typeinfo.msft_typeinfo_typekind.Statement.{statement}
 use Rattle.msft_typelib.proofs.typeinfo.msft_typeinfo_typekind.Tie as tie
@@ -7,4 +11,4 @@ msft-typeinfo-typekind-spec =
     tie.close
     (tie.spec
     (λ c κs. search needs) (λ c κs. search needs) (λ c κs. search needs)
-    (λ c. cc))
+    (λ c. replied (c .of-kind .ensures) (c .before .before .refusal .ensures) (ap (map kindNumber) (c .before .typekind .ensures))))
