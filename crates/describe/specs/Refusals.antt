@@ -7,9 +7,9 @@ use mathlib.Core.List.{List, [], _∷_}
 use mathlib.Core.List as list
 use Prim.Native.Nat.{ℕ, zero, suc, _+_, _≤_, _<_}
 use native.Mathlib.Omega.{arith}
-use lib.Dec.{T, leb, ltb, eqb, lit<}
+use lib.Dec.{T, leb, ltb, eqb}
 use lib.ListN.{length}
-use borrow.Author.Tests.{le-leb, lt-leb, leb-true, leb-false, ltb-false, eqb-true}
+use borrow.Author.Tests.{le-leb, lt-leb, leb-true, leb-false, ltb-false}
 use mir.Syntax.{w32}
 use mir.Val.{ofZ}
 use Rattle.util.specs.Read.{cond-elim}
@@ -42,7 +42,7 @@ use Rattle.describe.specs.Values.{fieldOf, all}
 use Rattle.describe.specs.Trees.{dimensionsOf, treeFrom, nestedOf}
 use Rattle.describe.specs.Members.{paramRecords, parameterWith, parameterOf, parametersOf, funcRecords, functionWith, functionOf, functionsOf, varRecords, variableWith, variableOf, variablesOf}
 use Rattle.describe.specs.Types.{implTypeAt, implTypesAt, baseOf, kindAt, typeWith, typeAt, typeOf, typesFrom}
-use Rattle.describe.specs.Describe.{headerOf, typesOf, describeAs, describe}
+use Rattle.describe.specs.Describe.{headerOf, describeAs, describe}
 use Rattle.describe.specs.Call.{within, sheetOf, Call}
 use Rattle.describe.specs.FieldLaws.{field-is}
 use Rattle.describe.specs.Answers.{Answers, gives, refuses, answers-refused, answers-bind, answers-map, answers-mono, answers-lent, answers-all, numbered-each}
@@ -177,21 +177,6 @@ module _ (s : List ℕ) (lib : TypeLib) where
 
 -- ---- the library and the call
 
--- the types upward
-pub types-listed : (s : List ℕ) (lib : TypeLib) → Sound (typesOf s lib)
-types-listed s lib = sound-all (typesFrom s lib (lib .count) 0) (types-sound s lib (lib .count) 0)
-
-among-below : (m n : ℕ) (ks : List ℕ) → Each (λ k. k < m) ks → T (among n ks) → n < m
-among-below m n [] h = λ t. absurd t
-among-below m n (k ∷ ks) h =
-    cond-elim (λ b. T b → n < m) (eqb n k) true (among n ks) (λ e _. rw (eqb-true n k e) (h .0)) (λ _ t. among-below m n ks (h .1) t)
-
--- a refusal's number is a byte
-pub listed-byte : (n : ℕ) → Listed n → n < 256
-listed-byte n l =
-    among-below 256 n ofDescription
-    (lit< tt, (lit< tt, (lit< tt, (lit< tt, (lit< tt, (lit< tt, (lit< tt, (lit< tt, (lit< tt, (lit< tt, (lit< tt, tt))))))))))) l
-
 -- a library is refused with 1 to 5, or its header is held
 pub parse-sound : (s : List ℕ) → Answers Listed (λ _. Holds s 0 (sizeOf header) (sizeOf header)) (parseOf s)
 unfolding parseOf
@@ -211,7 +196,8 @@ module _ (e : Edition) (s : List ℕ) where
   unfolding describeAs
   as-sound lib =
       cond-elim Sound (ltb (e .mostTypes) (lib .count)) _ _ (λ _. refuses tt) (λ _.
-      answers-map (λ types. record { header = headerOf s lib; types = types }) (types-listed s lib) (λ _ _. tt))
+      answers-map (λ types. record { header = headerOf s lib; types = types })
+      (sound-all (typesFrom s lib (lib .count) 0) (types-sound s lib (lib .count) 0)) (λ _ _. tt))
 
   pub describe-sound : Sound (describe e s)
   unfolding describe

@@ -3,7 +3,7 @@
 use mathlib.Core.Path.{_≡_}
 use mathlib.Core.Bool.{cond}
 use mathlib.Core.List.{List, _++_}
-use Prim.Native.Nat.{ℕ, suc, _+_, _-_, _≤_, min, max}
+use Prim.Native.Nat.{ℕ, suc, _+_, _-_, _%_, _≤_, min, max}
 use lib.Dec.{leb}
 use lib.ListN.{length}
 use lib.Seq.{sets}
@@ -28,9 +28,9 @@ abbrev pub past : ℕ
 past = suc limit
 
 -- The number that stands for it in the code, where one number costs less than two: a place, and past all places refusal 0 and so
--- on.
+-- on. (The number of a refusal is a byte.)
 unfoldable pub put : ℕ → Put
-put n = cond (leb n past) (At n) (Refused (n - suc past))
+put n = cond (leb n past) (At n) (Refused ((n - suc past) % 256))
 
 -- A place n bytes on, which stops one past the limit: from there no place is within it again, and none overflows.
 unfoldable pub advance : ℕ → ℕ → ℕ

@@ -101,14 +101,14 @@ pub put-at : (n : ℕ) → n ≤ past → put n ≡ At n
 unfolding put
 put-at n h = rw (le-leb n past h)
 
-pub put-refused : (n : ℕ) → past < n → put n ≡ Refused (n - suc past)
+pub put-refused : (n : ℕ) → past < n → put n ≡ Refused ((n - suc past) % 256)
 unfolding put
 put-refused n h = rw (lt-leb n past h)
 
 -- what holds of a place and of a refusal holds of the number
-put-elim : (P : Put → Type 0) (n : ℕ) → (n ≤ past → P (At n)) → (past < n → P (Refused (n - suc past))) → P (put n)
+put-elim : (P : Put → Type 0) (n : ℕ) → (n ≤ past → P (At n)) → (past < n → P (Refused ((n - suc past) % 256))) → P (put n)
 unfolding put
-put-elim P n f g = cond-elim P (leb n past) (At n) (Refused (n - suc past)) (λ h. f (leb-true n past h)) (λ h. g (leb-false n past h))
+put-elim P n f g = cond-elim P (leb n past) (At n) (Refused ((n - suc past) % 256)) (λ h. f (leb-true n past h)) (λ h. g (leb-false n past h))
 
 put-moved : (p : ℕ) (bs : Bytes) → put (advance p (length bs)) ≡ moved (put p) (value bs)
 unfolding advance
@@ -139,10 +139,10 @@ unstored {o} {bs} p {n} {q} f g h =
 pub refused-stays : {x : Answer Bytes} {o : List ℕ} {p : ℕ} → past < p → Emitted x (put p) o (put p) o
 refused-stays {x} {o} {p} h = rw (put-refused p h) (record { moves = refl; lays = tt; keeps = refl })
 
-pub refused-now : {o : List ℕ} {p n q : ℕ} → p ≤ past → q ≡ suc past + n → Emitted (refused n) (put p) o (put q) o
-refused-now {o} {p} {n} {q} h e =
+pub refused-now : {o : List ℕ} {p n q : ℕ} → n < 256 → p ≤ past → q ≡ suc past + n → Emitted (refused n) (put p) o (put q) o
+refused-now {o} {p} {n} {q} b h e =
     let k : past < q = omega (arith, e) in
-    let m : q - suc past ≡ n = omega (arith, e) in
+    let m : (q - suc past) % 256 ≡ n = omega (arith, e) in
     rw (put-at p h, put-refused q k, m) (record { moves = refl; lays = tt; keeps = refl })
 
 -- ---- a loop: what the rest of it, emitted from here, makes of the whole

@@ -8,3 +8,4 @@ pub mod ParseLaws
 pub mod LayLaws
 pub mod RowLaws
 pub mod Written
+pub mod Sheets

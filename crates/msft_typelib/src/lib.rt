@@ -19,6 +19,7 @@ mod refrecord;
 mod reply;
 mod row;
 mod rows;
+mod sheets;
 mod tables;
 mod typeinfo;
 mod typeinfos;

@@ -2,7 +2,6 @@
 // output.
 use crate::row;
 use crate::row::Row;
-use emit::Put;
 use records::answer::BoolAnswer;
 use records::answer::I16Answer;
 use records::answer::I32Answer;
@@ -24,6 +23,7 @@ ghost use Rattle.records.specs.Answer.{map};
 ghost use Rattle.records.specs.Told.{toldBool, toldI16, toldI32, toldKind, toldU16, toldU32, toldU8, toldUsize};
 ghost use Rattle.typelib.specs.Told.{toldOffset};
 ghost use Rattle.msft_typelib.specs.Call.{refusalOf, after, reply, bits16, bits32, truth, kindNumber, outcome, laid};
+ghost use Rattle.emit.specs.Emit.{put};
 ghost use Rattle.msft_typelib.specs.LayLaws.{startOf};
 ghost use Rattle.msft_typelib.specs.Written.{below};
 ghost use Rattle.msft_typelib.specs.Told.{toldRow};
@@ -192,13 +192,13 @@ pub fn of_written(a: UsizeAnswer) -> i64
 }
 
 // Where a row starts.
-fn start(number: u8) -> Put
-    ensures { λ r. ⌜ r ≡ startOf number ⌝ }
+fn start(number: u8) -> usize
+    ensures { λ r. ⌜ put r ≡ startOf number ⌝ }
 {
     if number == 0 {
-        Put::At(0)
+        0
     } else {
-        Put::Refused(number)
+        emit::put_refusal(0, number)
     }
 }
 
@@ -208,14 +208,13 @@ pub fn lay(number: u8, row: Row, out: &mut [u8]) -> i64
     ensures { λ r. ⌜ outcome (toZ w64 (ofZ w64 r)) (now (out .exit)) ≡ laid (after number (toldRow row)) (now (out .entry)) ⌝ }
 {
     let mut none: [u8; 0] = [];
-    match row::put_row(&mut none, start(number), row) {
-        Put::At(n) => {
-            if out.len() < n {
-                return minus(12);
-            }
-            row::put_row(out, Put::At(0), row);
-            n as i64
-        }
-        Put::Refused(n) => minus(n),
+    let size = row::put_row(&mut none, start(number), row);
+    if emit::PAST < size {
+        return minus(((size - emit::PAST - 1) % 256) as u8);
     }
+    if out.len() < size {
+        return minus(12);
+    }
+    row::put_row(out, 0, row);
+    size as i64
 }

@@ -2,7 +2,7 @@
 use mathlib.Core.Path.{_≡_, refl, sym, ap, _∙_}
 use mathlib.Core.Bool.{Bool, true, cond, _&&_}
 use mathlib.Core.List.{List, [], _∷_, _++_, append-nil}
-use Prim.Native.Nat.{ℕ, suc, _+_, _-_, _≤_, _<_, min, max}
+use Prim.Native.Nat.{ℕ, suc, _+_, _-_, _%_, _≤_, _<_, min, max}
 use native.Mathlib.Nat.{zero-add}
 use native.Mathlib.Omega.{arith}
 use lib.ListN.{length, take, drop}
@@ -13,11 +13,11 @@ use Rattle.records.specs.Record.{limit}
 use Rattle.typelib.specs.declared.TypeLib.{TypeLib}
 use Rattle.typelib.specs.declared.Parsed.{Parsed}
 use Rattle.typelib.specs.Header.{parseOf, parsed}
-use Rattle.description.specs.Description.{Bytes, TypeInfo, Library}
+use Rattle.description.specs.Description.{Bytes, Library}
 use Rattle.description.specs.Sheet.{edition-one, sheetBytes}
 use Rattle.describe.specs.Describe.{headerOf, typesOf, describeAs, describe}
 use Rattle.describe.specs.Answers.{answers-refused}
-use Rattle.describe.specs.Refusals.{Sound, parse-sound, types-listed, listed-byte}
+use Rattle.describe.specs.Refusals.{parse-sound}
 use Rattle.describe.specs.Call.{within, sheetOf, written, Call}
 use Rattle.emit.specs.Emit.{Put}
 use Rattle.emit.specs.Emit.{At, Refused, past, put}
@@ -40,20 +40,12 @@ module _ (size : ℕ) where
   first : (x : Answer Bytes) → put size ≡ moved (put 0) x → put size ≡ moved (At 0) x
   first x e = e ∙ ap (λ (t : Put). moved t x) (put-at 0 (omega arith))
 
-  -- a refusal, whose number is a byte
-  pub refusal-byte : (x : Answer Bytes) → ((n : ℕ) → x ≡ refused n → n < 256) → put size ≡ moved (put 0) x → past < size → size - suc past < 256
-  refusal-byte (value bs) small m h = absurd (let q : At (advance 0 (length bs)) ≡ Refused (size - suc past) = sym (first (value bs) m) ∙ put-refused size h in let z : _≡_ {A = ℕ} 0 1 = cc in omega arith)
-  refusal-byte (refused k) small m h =
-      let z : Refused (size - suc past) ≡ Refused k = sym (put-refused size h) ∙ first (refused k) m in
-      let q : size - suc past ≡ k = cc in
-      rw q (small k refl)
-
-  pub whole-refused : (x : Answer Bytes) {o : List ℕ} {n : ℕ} → put size ≡ moved (put 0) x → past < size → n ≡ size - suc past → Answered x o (refused n) o
+  pub whole-refused : (x : Answer Bytes) {o : List ℕ} {n : ℕ} → put size ≡ moved (put 0) x → past < size → n ≡ (size - suc past) % 256 → Answered x o (refused n) o
   unfolding written
-  whole-refused (value bs) {o} {n} m h e = absurd (let q : At (advance 0 (length bs)) ≡ Refused (size - suc past) = sym (first (value bs) m) ∙ put-refused size h in let z : _≡_ {A = ℕ} 0 1 = cc in omega arith)
+  whole-refused (value bs) {o} {n} m h e = absurd (let q : At (advance 0 (length bs)) ≡ Refused ((size - suc past) % 256) = sym (first (value bs) m) ∙ put-refused size h in let z : _≡_ {A = ℕ} 0 1 = cc in omega arith)
   whole-refused (refused k) {o} {n} m h e =
-      let z : Refused (size - suc past) ≡ Refused k = sym (put-refused size h) ∙ first (refused k) m in
-      let q : size - suc past ≡ k = cc in
+      let z : Refused ((size - suc past) % 256) ≡ Refused k = sym (put-refused size h) ∙ first (refused k) m in
+      let q : (size - suc past) % 256 ≡ k = cc in
       record { replies = ap refused (e ∙ q); leaves = refl }
 
   pub whole-long : (x : Answer Bytes) {o : List ℕ} → put size ≡ moved (put 0) x → size ≤ past → limit < size → Answered x o (refused 12) o
@@ -90,15 +82,6 @@ module _ (size : ℕ) where
         leaves = rw (le-leb (length bs) limit k, le-leb (length bs) (length o) j) (rw (f, q));
       }
   whole-done (refused j) m h room w = absurd (let q : At size ≡ Refused j = sym (put-at size (omega arith)) ∙ first (refused j) m in let z : _≡_ {A = ℕ} 0 1 = cc in omega arith)
-
--- the refusals of a sheet are bytes
-pub emitted-byte : (s : List ℕ) (lib : TypeLib) (n : ℕ) → sheetEmitted s lib ≡ refused n → n < 256
-unfolding sheetEmitted
-emitted-byte s lib n = by (typesOf s lib) (types-listed s lib)
-  where
-    by : (a : Answer (List TypeInfo)) → Sound a → map (sheetBytes edition-one) (map (λ types. record { header = headerOf s lib; types = types }) a) ≡ refused n → n < 256
-    by (value ts) l e = absurd (let z : _≡_ {A = ℕ} 0 1 = cc in omega arith)
-    by (refused m) l e = let q : m ≡ n = cc in rw (← q) (listed-byte m (answers-refused l refl))
 
 -- ---- parsing first
 

@@ -2,7 +2,7 @@
 use mathlib.Core.Path.{_≡_, refl, sym, ap, ap₂, _∙_}
 use mathlib.Core.List.{List, [], _∷_, _++_, append-assoc}
 use mathlib.Core.List as lists
-use Prim.Native.Nat.{ℕ, zero, suc, _+_, _-_, _*_, _≤_, _<_, min, max}
+use Prim.Native.Nat.{ℕ, zero, suc, _+_, _-_, _*_, _%_, _≤_, _<_, min, max}
 use native.Mathlib.Omega.{arith}
 use lib.Dec.{leb}
 use lib.ListN.{length, length-append}
@@ -42,13 +42,13 @@ at-is e = cc
 -- a number that stands for a place is that place
 pub place-is : (n : ℕ) {p : ℕ} → put n ≡ At p → n ≡ p
 unfolding put
-place-is n {p} = cond-elim (λ (t : Put). t ≡ At p → n ≡ p) (leb n past) (At n) (Refused (n - suc past)) (λ _ e. at-is e) (λ _ e. absurd (let z : _≡_ {A = ℕ} 0 1 = cc in omega arith))
+place-is n {p} = cond-elim (λ (t : Put). t ≡ At p → n ≡ p) (leb n past) (At n) (Refused ((n - suc past) % 256)) (λ _ e. at-is e) (λ _ e. absurd (let z : _≡_ {A = ℕ} 0 1 = cc in omega arith))
 
 pub unpatched : (from end : ℕ) {at : ℕ} {o : List ℕ} → ((p q : ℕ) → put from ≡ At p → put end ≡ At q → p ≤ q → ⊥) → Patched (put from) (put end) at o o
 unpatched from end h = record { puts = λ p q e g k m n. absurd (h p q e g k); keeps = refl }
 
 pub past-never : (n : ℕ) {p : ℕ} → past < n → put n ≡ At p → ⊥
-past-never n h e = let q : Refused (n - suc past) ≡ At _ = sym (put-refused n h) ∙ e in let z : _≡_ {A = ℕ} 0 1 = cc in omega arith
+past-never n h e = let q : Refused ((n - suc past) % 256) ≡ At _ = sym (put-refused n h) ∙ e in let z : _≡_ {A = ℕ} 0 1 = cc in omega arith
 
 pub patched : (from end at : ℕ) {r : Put} {o o′ : List ℕ} → Emitted (value (leBytes 4 (end - from))) (put at) o r o′ → Patched (put from) (put end) at o o′
 patched from end at {r} {o} {o′} w =

@@ -41,7 +41,7 @@ fn write(s: &[u8], lib: TypeLib, out: &mut [u8]) -> UsizeAnswer
 {
     let size = measure(s, lib);
     if emit::PAST < size {
-        return UsizeAnswer::Refused((size - emit::PAST - 1) as u8);
+        return UsizeAnswer::Refused(((size - emit::PAST - 1) % 256) as u8);
     }
     if LIMIT < size {
         return UsizeAnswer::Refused(12);

@@ -1,5 +1,4 @@
 use Rattle.emit.specs.Laws.{refused-now, refused-stays}
-use mathlib.Core.Path.{refl}
 use native.Mathlib.Omega.{arith}
 use borrow.Author.Needs.{needs}
 use Rattle.emit.proofs.put_refusal.Statement.{statement}
@@ -17,7 +16,7 @@ add-result-2 c = search needs
 
 -- src/lib.rt:47:1
 returns : tie.Need-returns
-returns c = λ o. refused-now (c .if1 .taken) (omega arith)
+returns c = λ o. refused-now (omega arith) (c .if1 .taken) (omega arith)
 
 -- src/lib.rt:47:1
 returns-2 : tie.Need-returns-2

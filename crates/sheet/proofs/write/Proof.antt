@@ -1,4 +1,4 @@
-use Rattle.sheet.proofs.CallLaws.{refusal-byte, emitted-byte, whole-refused, whole-long, whole-short, whole-done}
+use Rattle.sheet.proofs.CallLaws.{whole-refused, whole-long, whole-short, whole-done}
 use mathlib.Core.Path.{sym}
 use lib.Seq.{length-take-le}
 use native.Mathlib.Omega.{arith}
@@ -14,17 +14,17 @@ use Rattle.sheet.proofs.measure.Reads as measure-reads
 measure-requires : tie.Need-measure-requires
 measure-requires c κs = search needs
 
--- src/lib.rt:44:38
+-- src/lib.rt:44:39
 sub-t6 : tie.Need-sub-t6
-sub-t6 c = omega arith
+sub-t6 c = search needs
 
--- src/lib.rt:44:38
+-- src/lib.rt:44:39
 sub-t7 : tie.Need-sub-t7
-sub-t7 c = omega arith
+sub-t7 c = search needs
 
 -- src/lib.rt:44:37
-cast-t8 : tie.Need-cast-t8
-cast-t8 c = record { fits = omega (arith, refusal-byte _ _ (emitted-byte _ _) (c .before .measure .ensures) (c .if1 .taken)) }
+cast-t9 : tie.Need-cast-t9
+cast-t9 c = search needs
 
 -- src/lib.rt:44:9
 returns : tie.Need-returns
@@ -65,7 +65,7 @@ write-spec =
     measure-requires
     sub-t6
     sub-t7
-    cast-t8
+    cast-t9
     returns
     returns-2
     returns-3
