@@ -1,0 +1,171 @@
+/* tlb check: whether a library is read, and if not, what is refused and where. */
+#include "commands.h"
+#include "spell.h"
+
+#include <stdio.h>
+
+/* ---- counts ---- */
+
+static size_t count_functions(const library *l, msft_place type)
+{
+    msft_cursor at = functions_of(l, type);
+    msft_place record;
+    size_t count = 0;
+    while (next_function(l, &at, &record))
+        count++;
+    return count;
+}
+
+static size_t count_variables(const library *l, msft_place type)
+{
+    msft_cursor at = variables_of(l, type);
+    msft_place record;
+    size_t count = 0;
+    while (next_variable(l, &at, &record))
+        count++;
+    return count;
+}
+
+static void say_read(const library *l, const sheet *s)
+{
+    size_t types = (size_t)msft_typeinfo_count(BYTES(l));
+    size_t functions = 0, variables = 0;
+    msft_place type;
+    for (size_t i = 0; i < types; i++) {
+        if (!type_at(l, i, &type))
+            continue;
+        functions += count_functions(l, type);
+        variables += count_variables(l, type);
+    }
+    printf("%s: read: %zu types, %zu functions, %zu variables; sheet of %zu bytes\n", l->path,
+           types, functions, variables, s->len);
+}
+
+/* ---- the place of a refusal, in the order in which the sheet comes upon them ---- */
+
+static bool too_deep(const library *l, int64_t field)
+{
+    return MOST_LEVELS < levels_of(l, field);
+}
+
+/* Replies the parameter's number from 1, or 0 where none is too deep. */
+static size_t deep_parameter(const library *l, msft_place function)
+{
+    msft_cursor at = parameters_of(l, function);
+    msft_place record;
+    for (size_t i = 1; next_parameter(l, &at, &record); i++)
+        if (too_deep(l, msft_param_datatype(BYTES(l), MSFT_PLACE(record))))
+            return i;
+    return 0;
+}
+
+static void put_member(cell *c, const char *what, size_t index, text name)
+{
+    put(c, ", %s %zu ", what, index);
+    put_quoted(c, name);
+}
+
+static bool deep_function(const library *l, msft_place type, cell *where)
+{
+    msft_cursor at = functions_of(l, type);
+    msft_place record;
+    for (size_t i = 0; next_function(l, &at, &record); i++) {
+        bool result = too_deep(l, msft_func_datatype(BYTES(l), MSFT_PLACE(record)));
+        size_t parameter = result ? 0 : deep_parameter(l, record);
+        if (!result && parameter == 0)
+            continue;
+        put_member(where, "function", i, function_name(l, type, i));
+        if (result)
+            put(where, ", its result");
+        else
+            put(where, ", parameter %zu", parameter - 1);
+        return true;
+    }
+    return false;
+}
+
+static bool deep_variable(const library *l, msft_place type, cell *where)
+{
+    msft_cursor at = variables_of(l, type);
+    msft_place record;
+    for (size_t i = 0; next_variable(l, &at, &record); i++) {
+        if (!too_deep(l, msft_var_datatype(BYTES(l), MSFT_PLACE(record))))
+            continue;
+        put_member(where, "variable", i, variable_name(l, type, i));
+        return true;
+    }
+    return false;
+}
+
+static bool deep_alias(const library *l, msft_place type, cell *where)
+{
+    if (msft_typeinfo_typekind(BYTES(l), MSFT_PLACE(type)) != 6
+        || !too_deep(l, msft_typeinfo_datatype1(BYTES(l), MSFT_PLACE(type))))
+        return false;
+    put(where, ", what it stands for");
+    return true;
+}
+
+static bool round_chain(const library *l, msft_place type, cell *where)
+{
+    uint8_t out[24];
+    if (msft_typeinfo_typekind(BYTES(l), MSFT_PLACE(type)) != 5
+        || msft_impl_types(BYTES(l), MSFT_PLACE(type), out, sizeof out) < 0)
+        return false;
+    msft_chain_cursor at = msft_unpack_chain_cursor(out);
+    if (msft_walk(BYTES(l), MSFT_CHAIN_CURSOR(at), out, sizeof out) != -MSFT_CIRCLE)
+        return false;
+    put(where, ", the interfaces that it implements");
+    return true;
+}
+
+/* Whether the refusal is of this type; `where` then says at what of it. */
+static bool refused_in(const library *l, size_t index, int64_t reply, cell *where)
+{
+    uint8_t out[16];
+    int64_t found = msft_typeinfo(BYTES(l), index, out, sizeof out);
+    if (found < 0)
+        return found == reply;
+    msft_place type = msft_unpack_place(out);
+    if (reply == -MSFT_CIRCLE)
+        return round_chain(l, type, where);
+    return reply == -MSFT_TOO_DEEP
+        && (deep_alias(l, type, where) || deep_function(l, type, where)
+            || deep_variable(l, type, where));
+}
+
+static void say_where(const library *l, int64_t reply)
+{
+    int64_t types = msft_typeinfo_count(BYTES(l));
+    cell where;
+    if (reply == -MSFT_TOO_MANY_TYPES || reply == -MSFT_NO_SPACE)
+        return;
+    for (int64_t i = 0; i < types; i++) {
+        clear(&where);
+        put(&where, "type %ld ", (long)i);
+        put_quoted(&where, type_name(l, (size_t)i));
+        if (refused_in(l, (size_t)i, reply, &where)) {
+            fprintf(stderr, "tlb: %s: at %s\n", l->path, where.text);
+            return;
+        }
+    }
+}
+
+int check_command(const char *path)
+{
+    library l;
+    sheet s;
+    if (!load(&l, path))
+        return TROUBLE;
+    int64_t reply = make_sheet(&l, &s);
+    int status = reply == INT64_MIN ? TROUBLE : reply < 0 ? REFUSED : DONE;
+    if (status == DONE)
+        say_read(&l, &s);
+    if (status == REFUSED) {
+        say_refused(&l, reply);
+        say_where(&l, reply);
+    }
+    free_sheet(&s);
+    unload(&l);
+    return status;
+}
