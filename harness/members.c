@@ -290,7 +290,8 @@ static void print_library(const library *l)
     puts(c.text);
     clear(&c);
     put_version(&c, msft_version(BYTES(l)));
-    printf("    %s, %ld types\n", c.text, (long)msft_typeinfo_count(BYTES(l)));
+    printf("    %s, lcid 0x%04lx, %ld types\n", c.text, (unsigned long)msft_lcid(BYTES(l)),
+           (long)msft_typeinfo_count(BYTES(l)));
     text help = text_at(l, msft_lib_helpstring(BYTES(l), out, sizeof out), out);
     clear(&c);
     put_quoted(&c, help);
