@@ -101,7 +101,7 @@ static const char *reason(int64_t reply)
     case MSFT_WRONG_MAGIC: return "its first four bytes are not \"MSFT\"";
     case MSFT_BAD_COUNT: return "its count of types is negative";
     case MSFT_SHORT_DIRECTORY: return "it ends before its last segment entry does";
-    case MSFT_NO_SUCH_TYPEINFO: return "the offset of a type is negative or not inside the file";
+    case MSFT_NO_SUCH_TYPEINFO: return "the offset of a type is negative";
     case MSFT_NO_TYPEINFO_TABLE: return "it counts types but has no table of them";
     case MSFT_SHORT_TYPEINFO: return "fewer than 100 bytes are left for a type";
     case MSFT_NOTHING_THERE: return "something that must be there is not";

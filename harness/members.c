@@ -62,6 +62,17 @@ static void put_name(cell *c, text name)
         put_text(c, name);
 }
 
+/* A name, and the GUID where there is one. */
+static void put_title(cell *c, const library *l, text name, int64_t guid)
+{
+    cell id;
+    clear(&id);
+    put_guid(&id, l, guid);
+    put_name(c, name);
+    if (id.len != 0)
+        put(c, " %s", id.text);
+}
+
 /* A member's identifier, as the record has it. */
 static void print_memid(int64_t memid)
 {
@@ -265,9 +276,8 @@ static void print_type(const library *l, size_t index, msft_place type)
     put(&c, "[%zu] ", index);
     put_kind(&c, kind);
     put(&c, " ");
-    put_name(&c, type_name(l, index));
-    put(&c, " ");
-    put_guid(&c, l, msft_typeinfo_guid_offset(BYTES(l), MSFT_PLACE(type)));
+    put_title(&c, l, type_name(l, index),
+              msft_typeinfo_guid_offset(BYTES(l), MSFT_PLACE(type)));
     printf("\n%s\n", c.text);
     clear(&c);
     put_version(&c, msft_typeinfo_version(BYTES(l), MSFT_PLACE(type)));
@@ -284,9 +294,7 @@ static void print_library(const library *l)
     cell c;
     clear(&c);
     put(&c, "library ");
-    put_name(&c, name_at(l, msft_name_offset(BYTES(l))));
-    put(&c, " ");
-    put_guid(&c, l, msft_lib_guid_offset(BYTES(l)));
+    put_title(&c, l, name_at(l, msft_name_offset(BYTES(l))), msft_lib_guid_offset(BYTES(l)));
     puts(c.text);
     clear(&c);
     put_version(&c, msft_version(BYTES(l)));

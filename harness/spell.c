@@ -88,10 +88,13 @@ static void put_import(cell *c, const library *l, const msft_reference *r)
     int64_t which = msft_impinfo_guid_offset(BYTES(l), MSFT_PLACE(r->info));
     put_file(c, l, r);
     put(c, ":");
+    size_t before = c->len;
     if (0 <= flags && (flags & 0x10000) != 0)
         put_guid(c, l, which);
     else if (0 <= which)
         put(c, "#%ld", (long)msft_i32(which));
+    if (c->len == before)
+        put(c, "(nothing)");
 }
 
 void put_reference(cell *c, const library *l, int64_t hreftype)
