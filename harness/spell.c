@@ -133,10 +133,8 @@ static void put_code(cell *c, uint16_t code)
 static void put_bound(cell *c, const library *l, msft_place array, size_t index)
 {
     uint8_t out[8];
-    if (msft_arraydesc_bound(BYTES(l), MSFT_PLACE(array), index, out, sizeof out) < 0) {
-        put(c, "[?]");
+    if (msft_arraydesc_bound(BYTES(l), MSFT_PLACE(array), index, out, sizeof out) < 0)
         return;
-    }
     msft_bound b = msft_unpack_bound(out);
     if (b.lower == 0)
         put(c, "[%lu]", (unsigned long)b.elements);
@@ -144,11 +142,26 @@ static void put_bound(cell *c, const library *l, msft_place array, size_t index)
         put(c, "[%ld..%lld]", (long)b.lower, (long long)b.lower + b.elements - 1);
 }
 
+/* Whether the last dimension of an array is there. */
+static bool whole_array(const library *l, msft_place array)
+{
+    uint8_t out[8];
+    int64_t n = msft_arraydesc_num_dims(BYTES(l), MSFT_PLACE(array));
+    if (n <= 0)
+        return n == 0;
+    return 0 <= msft_arraydesc_bound(BYTES(l), MSFT_PLACE(array), (size_t)n - 1, out, sizeof out);
+}
+
 static void put_tree(cell *c, const library *l, int64_t field, int levels);
 
+/* The element type and the bounds; nothing where one of the bounds is not there. */
 static void put_array(cell *c, const library *l, msft_place array, int levels)
 {
     int64_t dimensions = msft_arraydesc_num_dims(BYTES(l), MSFT_PLACE(array));
+    if (!whole_array(l, array)) {
+        put(c, "(nothing)");
+        return;
+    }
     put_tree(c, l, msft_arraydesc_element_type(BYTES(l), MSFT_PLACE(array)), levels);
     for (int64_t i = 0; i < dimensions && !full(c); i++)
         put_bound(c, l, array, (size_t)i);
@@ -207,16 +220,6 @@ static void put_tree(cell *c, const library *l, int64_t field, int levels)
 void put_type(cell *c, const library *l, int64_t field)
 {
     put_tree(c, l, field, MOST_LEVELS);
-}
-
-/* Whether the last dimension of an array is there. */
-static bool whole_array(const library *l, msft_place array)
-{
-    uint8_t out[8];
-    int64_t n = msft_arraydesc_num_dims(BYTES(l), MSFT_PLACE(array));
-    if (n <= 0)
-        return n == 0;
-    return 0 <= msft_arraydesc_bound(BYTES(l), MSFT_PLACE(array), (size_t)n - 1, out, sizeof out);
 }
 
 /* The type field inside a description, or minus 1. */

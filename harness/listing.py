@@ -1,0 +1,248 @@
+#!/usr/bin/env python3
+"""Prints from a raw sheet what `tlb members` must list of its library: listing.py SHEET.
+
+The tool reads the library's records; this reads the sheet, which is proved to be the library's
+description, by document 01's layout. The tests hold the two against each other. The library's help
+string is in no sheet, and `extends` is left out where the reference is nothing."""
+import math
+import struct
+import sys
+
+KINDS = ['ENUM', 'RECORD', 'MODULE', 'INTERFACE', 'DISPATCH', 'COCLASS', 'ALIAS', 'UNION']
+CODES = {0: 'void', 2: 'Integer', 3: 'Long', 4: 'Single', 5: 'Double', 6: 'Currency', 7: 'Date', 8: 'String',
+         9: 'Object', 10: 'SCODE', 11: 'Boolean', 12: 'Variant', 13: 'IUnknown', 16: 'SignedByte', 17: 'Byte',
+         18: 'UShort', 19: 'ULong', 20: 'LongLong', 21: 'ULongLong', 22: 'Int', 23: 'UInt', 24: 'void',
+         25: 'HRESULT', 26: 'Ptr', 27: 'SafeArray', 28: 'CArray', 29: 'UserDefined'}
+INVOKE = {1: 'func', 2: 'propget', 4: 'propput', 8: 'propputref'}
+VARIABLE = {0: 'field', 1: 'static', 2: 'const', 3: 'property'}
+PARAMETER = [(1, 'in'), (2, 'out'), (4, 'lcid'), (8, 'retval'), (16, 'optional')]
+IMPLEMENTED = [(1, 'default'), (2, 'source'), (4, 'restricted'), (8, 'defaultvtable')]
+SIGNED = {2: 2, 3: 4, 16: 1, 20: 8, 22: 4}
+UNSIGNED = {17: 1, 18: 2, 19: 4, 21: 8, 23: 4}
+
+
+class Reader:
+    def __init__(self, data):
+        self.data, self.at = data, 0
+
+    def take(self, count):
+        part = self.data[self.at:self.at + count]
+        assert len(part) == count, 'the sheet ends early'
+        self.at += count
+        return part
+
+    def number(self, width):
+        return int.from_bytes(self.take(width), 'little')
+
+    def opt(self, read):
+        code = self.number(1)
+        assert code < 2
+        return read() if code else None
+
+    def name(self):
+        return self.take(self.number(1))
+
+    def guid(self):
+        a, b, c, d = struct.unpack('<IHH8s', self.take(16))
+        h = d.hex().upper()
+        return '{%08X-%04X-%04X-%s-%s}' % (a, b, c, h[:4], h[4:])
+
+    def reference(self):
+        code = self.number(1)
+        if code == 0:
+            return None
+        self.number(1)
+        if code == 1:
+            return self.number(2)
+        if self.number(4) & 0x10000:
+            what = self.opt(self.guid) or '(nothing)'
+        else:
+            what = '#%d' % struct.unpack('<i', self.take(4))
+        return (self.opt(self.file) or '(no file)') + ':' + what
+
+    def file(self):
+        self.opt(self.guid)
+        self.take(8)
+        return words(self.take(self.number(2)))
+
+    def tree(self):
+        code = self.number(1)
+        if code == 0:
+            return lambda names: '(nothing)'
+        if code == 1:
+            base = self.number(2)
+            return lambda names: CODES.get(base, 'Unknown(%d)' % base)
+        if code == 4:
+            bounds = ''.join(bound(*struct.unpack('<Ii', self.take(8))) for _ in range(self.number(2)))
+            inner = self.tree()
+            return lambda names: inner(names) + bounds
+        if code == 5:
+            to = self.reference()
+            return lambda names: referred(to, names)
+        inner = self.tree()
+        return lambda names: ('SAFEARRAY(%s)' if code == 3 else '%s*') % inner(names)
+
+    def constant(self):
+        code = self.number(2)
+        if code in (0, 1, 24):
+            return {0: '(empty)', 1: '(null)', 24: '(void)'}[code]
+        if code in SIGNED:
+            return str(int.from_bytes(self.take(SIGNED[code]), 'little', signed=True))
+        if code in UNSIGNED:
+            return str(self.number(UNSIGNED[code]))
+        if code == 8:
+            text = self.opt(lambda: self.take(self.number(4)))
+            return '(null string)' if text is None else '"%s"' % words(text)
+        if code == 11:
+            return 'true' if self.number(1) else 'false'
+        if code == 14:
+            return 'decimal(%s)' % self.take(16).hex()
+        if code in (4, 5, 7):
+            text = floating(self.take(4 if code == 4 else 8))
+            return 'date(%s)' % text if code == 7 else text
+        if code == 6:
+            value = int.from_bytes(self.take(8), 'little', signed=True)
+            return '%s%d.%04d' % ('-' if value < 0 else '', abs(value) // 10000, abs(value) % 10000)
+        if code == 64:
+            return '0x%016x' % self.number(8)
+        form = '0x%08x' if code in (10, 25) else 'raw(' + str(code) + ', 0x%08x)'
+        return form % self.number(4)
+
+
+def words(text):
+    return ''.join('\\x%02x' % b if b < 0x20 or 0x7e < b else '\\' + chr(b) if chr(b) in '\\"' else chr(b)
+                   for b in text)
+
+
+def bound(elements, lower):
+    return '[%d]' % elements if lower == 0 else '[%d..%d]' % (lower, lower + elements - 1)
+
+
+def floating(data):
+    form = '<f' if len(data) == 4 else '<d'
+    value = struct.unpack(form, data)[0]
+    if math.isnan(value):
+        return 'nan(0x%x)' % int.from_bytes(data, 'little')
+    for digits in range(1, 18):
+        text = '%.*g' % (digits, value)
+        if struct.pack(form, float(text)) == data or float(text) == value:
+            break
+    return text
+
+
+def named(name):
+    return '(no name)' if name is None else words(name)
+
+
+def referred(to, names):
+    if to is None:
+        return '(nothing)'
+    if isinstance(to, str):
+        return to
+    return '[%d]' % to if names[to] is None else words(names[to])
+
+
+def brackets(flags, table):
+    found = [word for mask, word in table if flags & mask]
+    rest = flags & ~sum(mask for mask, _ in table)
+    found += ['0x%x' % rest] if rest else []
+    return '[%s] ' % ', '.join(found) if found else ''
+
+
+def row(memid, offset, kind, rest):
+    return '    %-10s  %-6s  %-10s  %s' % ('-' if memid is None else '0x%08x' % memid,
+                                            '-' if offset is None else '0x%04x' % offset, kind, rest)
+
+
+def parameter(r):
+    tree, name, flags, default = r.tree(), r.opt(r.name), r.number(4), r.opt(r.constant)
+    value = ' = ' + (default or '(nothing)') if flags & 0x20 else ''
+    return lambda names: brackets(flags & ~0x20, PARAMETER) + tree(names) + ' ' + named(name) + value
+
+
+def function(r):
+    memid, name, tree = r.opt(lambda: r.number(4)), r.opt(r.name), r.tree()
+    r.number(4)
+    offset, kind = r.number(2), INVOKE.get(r.number(4) >> 3 & 15, 'unknown')
+    r.take(4)
+    parameters = [parameter(r) for _ in range(r.number(2))]
+    return lambda names: row(memid, offset, kind, '%s %s(%s)' % (
+        tree(names), named(name), ', '.join(p(names) for p in parameters)))
+
+
+def variable(r):
+    memid, name, tree = r.opt(lambda: r.number(4)), r.opt(r.name), r.tree()
+    r.number(4)
+    kind = r.number(2)
+    value = r.opt(r.constant) if kind == 2 else r.number(4)
+    rest = ' = ' + (value or '(nothing)') if kind == 2 else ''
+    return lambda names: row(memid, None if kind == 2 else value, VARIABLE.get(kind, 'unknown'),
+                             tree(names) + ' ' + named(name) + rest)
+
+
+def base(r, kind):
+    if kind == 5:
+        found = [(r.reference(), r.number(4)) for _ in range(r.number(4))]
+        return lambda names: ['    implements ' + brackets(f, IMPLEMENTED) + referred(to, names) for to, f in found]
+    if kind in (3, 4):
+        to = r.reference()
+        return lambda names: [] if to is None else ['    extends ' + referred(to, names)]
+    if kind == 6:
+        tree = r.tree()
+        return lambda names: ['    stands for ' + tree(names)]
+    return lambda names: []
+
+
+def members(r, what, declared, read):
+    found = [read(r) for _ in range(r.number(2))]
+    short = ['    (declares %d %s, found %d)' % (declared, what, len(found))] if declared != len(found) else []
+    return found, short
+
+
+def type_body(r, index):
+    kind, flags, version = r.number(1), r.number(4), r.number(4)
+    guid, name = r.opt(r.guid), r.opt(r.name)
+    functions, variables = r.number(2), r.number(2)
+    rests = base(r, kind)
+    functions, few = members(r, 'functions', functions, function)
+    variables, fewer = members(r, 'variables', variables, variable)
+
+    def lines(names):
+        word = KINDS[kind] if kind < 8 else 'UNKNOWN(%d)' % kind
+        heads = [row(None, None, 'kind', 'member').replace('-     ', 'memid ', 1).replace('-     ', 'offset', 1)]
+        out = ['', '[%d] %s %s%s' % (index, word, named(name), ' ' + guid if guid else ''),
+               '    flags 0x%08x, %s' % (flags, versions(version))] + rests(names)
+        out += heads if functions else []
+        out += [f(names) for f in functions] + few
+        out += heads if variables and not functions else []
+        return out + [v(names) for v in variables] + fewer
+    return name, lines
+
+
+def versions(version):
+    return 'version %d.%d' % (version & 0xffff, version >> 16)
+
+
+def main():
+    r = Reader(open(sys.argv[1], 'rb').read())
+    count = r.number(4)
+    lengths = [r.number(4) for _ in range(1 + count)]
+    ends, at = [], r.at
+    for length in lengths:
+        at += length
+        ends.append(at)
+    lcid, version, guid, name = r.number(4), r.number(4), r.opt(r.guid), r.opt(r.name)
+    assert r.at == ends[0]
+    types = []
+    for i in range(count):
+        types.append(type_body(r, i))
+        assert r.at == ends[i + 1]
+    assert r.at == len(r.data)
+    names = [name for name, _ in types]
+    print('library ' + named(name) + (' ' + guid if guid else ''))
+    print('    %s, lcid 0x%04x, %d types' % (versions(version), lcid, count))
+    for _, lines in types:
+        print('\n'.join(lines(names)))
+
+
+main()
