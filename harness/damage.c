@@ -63,11 +63,12 @@ static int write_copy(const char *folder, int number)
     char path[4096];
     snprintf(path, sizeof path, "%s/%d", folder, number);
     FILE *file = fopen(path, "wb");
-    if (file == NULL || fwrite(copy, 1, copy_len, file) != copy_len || fclose(file) != 0) {
+    int written = file != NULL && fwrite(copy, 1, copy_len, file) == copy_len;
+    if (file != NULL && fclose(file) != 0)
+        written = 0;
+    if (!written)
         perror(path);
-        return 1;
-    }
-    return 0;
+    return written ? 0 : 1;
 }
 
 int main(int argc, char **argv)

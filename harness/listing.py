@@ -58,7 +58,8 @@ class Reader:
             what = self.opt(self.guid) or '(nothing)'
         else:
             what = '#%d' % struct.unpack('<i', self.take(4))
-        return (self.opt(self.file) or '(no file)') + ':' + what
+        file = self.opt(self.file)
+        return ('(no file)' if file is None else file) + ':' + what
 
     def file(self):
         self.opt(self.guid)
