@@ -92,6 +92,22 @@ fn common_factor(one: usize, two: usize) -> usize {
     }
 }
 
+/// A library of about the longest length that is nearly all names, none of them a member's of its one type.
+pub fn many_names() -> Vec<u8> {
+    let entry = words([
+        u32::MAX,
+        u32::MAX,
+        8,
+        u32::from_le_bytes(*b"draw"),
+        u32::from_le_bytes(*b"next"),
+    ]);
+    let count = (MOST_BYTES - FIXED - 4) / entry.len();
+    let mut layout = Layout::new(vec![0]);
+    layout.table(layout::TYPEINFOS, typeinfo(0, -1, 0));
+    layout.table(layout::NAMES, entry.repeat(count));
+    layout.bytes()
+}
+
 /// A type with as many functions as it can declare, each with parameters, defaults and names.
 pub fn many_functions(params: usize) -> Vec<u8> {
     let size = 24 + 16 * params;
