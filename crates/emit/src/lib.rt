@@ -1,6 +1,6 @@
 // Emitters: each writes bytes at a place of the output and replies the place behind them.
 //
-// The place is sticky. A refusal passes through, so that a row of emitters is a straight line; and
+// A refusal stays in the place and passes through, so that a row of emitters is a straight line; and
 // where the output has no room an emitter only counts, so that one traversal both measures (over an
 // empty output) and writes. A place and a refusal are one number, since an enum is slow to hand on.
 ghost use mathlib.Core.Path.{_≡_};

@@ -27,7 +27,7 @@ pub(crate) fn replay(
     }
 }
 
-// Where some bytes of a table lie, through the door to the tables and behind it. Import records are
+// Where some bytes of a table lie, by `table_place` and by `place_in` behind it. Import records are
 // kept to their segment.
 pub(crate) fn place(
     lent: &[u8],

@@ -122,7 +122,7 @@ pub record Here (s : List ℕ) (size : ℕ) (p : Place) : Type 0 where
   pub inside : p .at + size ≤ length s
   pub whole : p .len ≡ size
 
--- bytes that the door lets through are inside lent bytes that are not over-long
+-- bytes that are found in a table are inside lent bytes that are not over-long
 pub found : (strict : Bool) (s : List ℕ) (lib : TypeLib) (k offset size : ℕ) (p : Place) → value p ≡ tablePlace strict s lib k offset size → Here s size p
 unfolding lent
 found strict s lib k offset size p =

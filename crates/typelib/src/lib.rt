@@ -169,7 +169,7 @@ impl TypeLib {
         })
     }
 
-    // The one door to each table: where the `size` bytes at `offset` of segment `index` lie.
+    // The one way to each table: where the `size` bytes at `offset` of segment `index` lie.
     pub fn table_place(
         self,
         s: &[u8],
