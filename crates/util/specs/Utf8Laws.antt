@@ -9,7 +9,7 @@ use native.Mathlib.Omega.{arith}
 use lib.ListN.{length, getD, drop}
 use lib.Seq.{drop-cons}
 use lib.Dec.{leb, ltb, eqb}
-use borrow.Author.Tests.{lt-ltb, le-ltb, le-leb, eq-eqb, ne-eqb, ltb-true, ltb-false, leb-true, eqb-true, eqb-false}
+use borrow.Author.Tests.{lt-ltb, le-ltb, le-leb, lt-leb, eq-eqb, ne-eqb, ltb-true, ltb-false, leb-true, eqb-true, eqb-false}
 use Rattle.util.specs.Read.{cond-elim}
 use Rattle.util.specs.Utf8.{In, Tail, Text, none, utf8-1, utf8-2, utf8-3-e0, utf8-3-e1, utf8-3-ed, utf8-3-ee, utf8-4-f0, utf8-4-f1, utf8-4-f4}
 use Rattle.util.specs.Utf8.{afterFirst, afterTail, afterByte, accepts, utf8}
@@ -258,6 +258,34 @@ pub accepts-step : (state i : ℕ) (s : List ℕ) → i < length s → accepts s
 unfolding accepts
 accepts-step state i s h =
     ap (accepts state) (drop-cons s i 0 h) ∙ ap (λ k. accepts state (getD s i 0 ∷ drop k s)) (sym (add-one i))
+
+-- a byte of ASCII changes nothing where a character may begin
+pub ascii-begins : (st i : ℕ) (s : List ℕ) → i < length s → st ≡ 0 → getD s i 0 < 0x80 → accepts st (drop (i + 1) s) ≡ accepts st (drop i s)
+unfolding afterByte
+ascii-begins st i s h e lt =
+    let f : afterByte st (getD s i 0) ≡ 0 = rw e (first-1 (getD s i 0) (record { low = omega arith; high = omega arith })) in
+    ap (λ k. accepts k (drop (i + 1) s)) e ∙ sym (accepts-step st i s h ∙ ap (λ k. cond (eqb k 8) false (accepts k (drop (i + 1) s))) f)
+
+tail-out : (lo hi k b : ℕ) → b < lo → afterTail b lo hi k ≡ 8
+unfolding afterTail
+tail-out lo hi k b h = rw (lt-leb lo b h)
+
+either-way : (t : Bool) (x y : ℕ) → x ≡ 8 → y ≡ 8 → cond t x y ≡ 8
+either-way true x y e f = e
+either-way false x y e f = f
+
+-- and ends the text elsewhere: a tail is no ASCII
+pub ascii-ends : (st i : ℕ) (s : List ℕ) → i < length s → (st ≡ 0 → ⊥) → getD s i 0 < 0x80 → accepts st (drop i s) ≡ false
+unfolding afterByte
+ascii-ends st i s h n lt =
+    let b = getD s i 0 in
+    let t : (lo hi k : ℕ) → 0x80 ≤ lo → afterTail b lo hi k ≡ 8 = λ lo hi k g. tail-out lo hi k b (omega arith) in
+    let f : afterByte st b ≡ 8 =
+    rw (ne-eqb st 0 n)
+    (either-way (eqb st 1) _ _ (t 0x80 0xbf 0 (omega arith)) (either-way (eqb st 2) _ _ (t 0x80 0xbf 1 (omega arith)) (either-way (eqb st 3) _ _ (t 0x80 0xbf 2 (omega arith))
+    (either-way (eqb st 4) _ _ (t 0xa0 0xbf 1 (omega arith)) (either-way (eqb st 5) _ _ (t 0x80 0x9f 1 (omega arith)) (either-way (eqb st 6) _ _ (t 0x90 0xbf 2 (omega arith))
+    (either-way (eqb st 7) _ _ (t 0x80 0x8f 2 (omega arith)) refl))))))) in
+    accepts-step st i s h ∙ ap (λ k. cond (eqb k 8) false (accepts k (drop (i + 1) s))) f
 
 -- a reply that is the test's is true exactly of text
 pub decided : (r : Bool) (s : List ℕ) → r ≡ utf8 s → (r ≡ utf8 s) × (r ≡ true ↔ Text s)

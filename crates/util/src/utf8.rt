@@ -85,7 +85,8 @@ fn after_byte(state: u8, b: u8) -> u8
     }
 }
 
-// Whether `s` is text in UTF-8.
+// Whether `s` is text in UTF-8. (Most text is ASCII, which is text where a character may begin and nowhere else: such a byte
+// needs no more than that.)
 pub fn is_utf8(s: &[u8]) -> bool
     ensures { λ r. ⌜ r ≡ utf8 (now (s .entry)) ⌝ }
     ensures { λ r. ⌜ r ≡ true ↔ Text (now (s .entry)) ⌝ }
@@ -93,9 +94,14 @@ pub fn is_utf8(s: &[u8]) -> bool
     let mut state: u8 = CHARACTER;
     let mut i: usize = 0;
     while i < s.len() {
-        state = after_byte(state, s[i]);
+        let b = s[i];
         i += 1;
-        if state == NO_TEXT {
+        if 0x80 <= b {
+            state = after_byte(state, b);
+            if state == NO_TEXT {
+                return false;
+            }
+        } else if state != CHARACTER {
             return false;
         }
     }
