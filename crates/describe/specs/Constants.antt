@@ -12,7 +12,7 @@ use Rattle.records.specs.declared.types.ConstValue.the-variants as const
 use Rattle.records.specs.Answer.{Answer, value, refused, map}
 use Rattle.records.specs.Types.{vtOf}
 use Rattle.typelib.specs.declared.TypeLib.{TypeLib}
-use Rattle.typelib.specs.Constants.{constAt}
+use Rattle.constants.specs.Constants.{constAt}
 use Rattle.description.specs.Description.{Bytes, Shape, shapeOf, Value, Constant}
 use Rattle.description.specs.Description.Shape.{empty, number, bit, octets, text}
 use Rattle.describe.specs.Values.{found, bytesIn}

@@ -3,7 +3,7 @@
 use mathlib.Core.Path.{_≡_, refl}
 use Rattle.util.specs.Read.{le, read}
 use Rattle.records.specs.Answer.{value}
-use Rattle.typelib.specs.Edges.{library}
+use Rattle.describe.specs.WorkedCases.{library}
 use Rattle.typelib.specs.Header.{libraryOf, parseOf}
 use Rattle.typelib.specs.Tables.{lent, segmentPlace, segmentOf}
 use Rattle.typelib.specs.Tabulate.{tabulate}

@@ -25,7 +25,7 @@ use Rattle.records.specs.Types.{vtOf}
 use Rattle.typelib.specs.declared.TypeLib.{TypeLib}
 use Rattle.typelib.specs.Tables.{negative, tablePlace}
 use Rattle.typelib.specs.TableLaws.{found as found-place}
-use Rattle.typelib.specs.Constants.{low, r4As, r8As, dateAs, constantOf, among, inlineCodes, inlineCode, inlineOf, storedWidth, textBehind, valueAt, storedAt}
+use Rattle.constants.specs.Constants.{low, r4As, r8As, dateAs, constantOf, among, inlineCodes, inlineCode, inlineOf, storedWidth, textBehind, valueAt, storedAt}
 use Rattle.description.specs.Format.{Fits, opt, counted}
 use Rattle.description.specs.Format.IfAny.{missing}
 use Rattle.description.specs.Format.IfAny.{found as present}

@@ -23,10 +23,10 @@ use Rattle.records.specs.Layout.{sizeOf, parameterInfo, funcRecord, varRecord}
 use Rattle.records.specs.Record.{field, signed32, bitsOf, recordPlace, flagSet}
 use Rattle.typelib.specs.declared.TypeLib.{TypeLib}
 use Rattle.typelib.specs.declared.typeinfos.Counts.{Counts}
-use Rattle.typelib.specs.declared.iterators.FuncCursor.{FuncCursor}
-use Rattle.typelib.specs.declared.iterators.VarCursor.{VarCursor}
-use Rattle.typelib.specs.declared.iterators.ParamCursor.{ParamCursor}
-use Rattle.typelib.specs.Cursors.{funcStep, blockWith, funcCursor, funcsOf, varStep, skip, varsFrom, varCursor, varsOf, paramStep, paramCursor, paramsOf}
+use Rattle.cursors.specs.declared.iterators.FuncCursor.{FuncCursor}
+use Rattle.cursors.specs.declared.iterators.VarCursor.{VarCursor}
+use Rattle.cursors.specs.declared.iterators.ParamCursor.{ParamCursor}
+use Rattle.cursors.specs.Cursors.{funcStep, blockWith, funcCursor, funcsOf, varStep, skip, varsFrom, varCursor, varsOf, paramStep, paramCursor, paramsOf}
 use Rattle.typelib.specs.TypeInfos.{ofTypeInfo, countsOf, blockAt, auxWord, auxIn, memberWord, funcNameOffset, varNameOffset}
 use Rattle.description.specs.Format.{Format, Fits, list, opt}
 use Rattle.description.specs.Description.{isConstant}

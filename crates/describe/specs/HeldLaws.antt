@@ -18,10 +18,10 @@ use Rattle.typelib.specs.declared.TypeLib.{TypeLib}
 use Rattle.typelib.specs.Header.{header, parseOf}
 use Rattle.typelib.specs.Tables.{lent, segmentOf, placeIn, tablePlace}
 use Rattle.typelib.specs.TableLaws.{found as found-place}
-use Rattle.typelib.specs.CursorLaws.{lent-value}
-use Rattle.typelib.specs.declared.impltypes.ImplTypeCursor.{ImplTypeCursor}
-use Rattle.typelib.specs.Chain.{placeAt, recordsOf}
-use Rattle.typelib.specs.ChainLaws.{place-is, inside, walk-took, records}
+use Rattle.cursors.specs.CursorLaws.{lent-value}
+use Rattle.cursors.specs.declared.impltypes.ImplTypeCursor.{ImplTypeCursor}
+use Rattle.cursors.specs.Chain.{placeAt, recordsOf}
+use Rattle.cursors.specs.ChainLaws.{place-is, inside, walk-took, records}
 use Rattle.typelib.specs.Tabulate.{tabulate}
 use Rattle.description.specs.Format.{Each}
 use Rattle.typelib.specs.References.{Resolved, impFileAt, hrefResolved}

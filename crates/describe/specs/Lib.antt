@@ -23,3 +23,4 @@ pub mod Refusals
 pub mod HeldLaws
 pub mod DimensionLaws
 pub mod Edges
+pub mod WorkedCases

@@ -15,10 +15,10 @@ use Rattle.records.specs.Attributes.{defaultValueOffset}
 use Rattle.records.specs.Layout.{parameterInfo, funcRecord, varRecord}
 use Rattle.records.specs.Record.{flagSet, signed32}
 use Rattle.typelib.specs.declared.TypeLib.{TypeLib}
-use Rattle.typelib.specs.declared.iterators.FuncCursor.{FuncCursor}
-use Rattle.typelib.specs.declared.iterators.VarCursor.{VarCursor}
-use Rattle.typelib.specs.declared.iterators.ParamCursor.{ParamCursor}
-use Rattle.typelib.specs.Cursors.{Step, yielded, ended, funcStep, funcsOf, varStep, varsOf, paramStep, paramsOf}
+use Rattle.cursors.specs.declared.iterators.FuncCursor.{FuncCursor}
+use Rattle.cursors.specs.declared.iterators.VarCursor.{VarCursor}
+use Rattle.cursors.specs.declared.iterators.ParamCursor.{ParamCursor}
+use Rattle.cursors.specs.Cursors.{Step, yielded, ended, funcStep, funcsOf, varStep, varsOf, paramStep, paramsOf}
 use Rattle.typelib.specs.Names.{nameBytes}
 use Rattle.typelib.specs.TypeInfos.{funcMemid, varMemid, funcNameOffset, varNameOffset}
 use Rattle.description.specs.Description.{Bytes, Tree, Constant, Parameter, Function, VariableValue, isConstant, Variable}

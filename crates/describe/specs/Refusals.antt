@@ -23,10 +23,10 @@ use Rattle.records.specs.Layout.{sizeOf, typeInfoBase, arrayDesc, parameterInfo
 use Rattle.records.specs.Record.{limit}
 use Rattle.records.specs.RecordLaws.{Holds}
 use Rattle.typelib.specs.declared.TypeLib.{TypeLib}
-use Rattle.typelib.specs.declared.impltypes.ImplTypeCursor.{ImplTypeCursor}
-use Rattle.typelib.specs.Chain.{referenceTable, implTypesOf, returnsAt, taken, walkOf, placeAt, recordsOf}
-use Rattle.typelib.specs.Constants.{among}
-use Rattle.typelib.specs.Cursors.{funcsOf, varsOf, paramsOf}
+use Rattle.cursors.specs.declared.impltypes.ImplTypeCursor.{ImplTypeCursor}
+use Rattle.cursors.specs.Chain.{referenceTable, implTypesOf, returnsAt, taken, walkOf, placeAt, recordsOf}
+use Rattle.constants.specs.Constants.{among}
+use Rattle.cursors.specs.Cursors.{funcsOf, varsOf, paramsOf}
 use Rattle.typelib.specs.Descriptors.{typeDescription}
 use Rattle.typelib.specs.Header.{header, word, signature, directoryAt, parseOf}
 use Rattle.typelib.specs.Tables.{lent, negative, segmentOf, placeIn}

@@ -11,13 +11,13 @@ use Rattle.records.specs.declared.answer.Place.{Place}
 use Rattle.records.specs.Answer.{Answer, value, refused}
 use Rattle.records.specs.Layout.{sizeOf, funcRecord, varRecord, parameterInfo}
 use Rattle.records.specs.RecordLaws.{Holds}
-use Rattle.typelib.specs.declared.iterators.FuncCursor.{FuncCursor}
-use Rattle.typelib.specs.declared.iterators.VarCursor.{VarCursor}
-use Rattle.typelib.specs.declared.iterators.ParamCursor.{ParamCursor}
+use Rattle.cursors.specs.declared.iterators.FuncCursor.{FuncCursor}
+use Rattle.cursors.specs.declared.iterators.VarCursor.{VarCursor}
+use Rattle.cursors.specs.declared.iterators.ParamCursor.{ParamCursor}
 use Rattle.typelib.specs.Tables.{lent}
 use Rattle.typelib.specs.TableLaws.{lent-fits}
-use Rattle.typelib.specs.Cursors.{Step, yielded, ended, stepBy, recordAt, fixedAt, funcStep, varStep, paramAt, paramStep}
-use Rattle.typelib.specs.CursorLaws.{recorded, fixed, param, lent-value}
+use Rattle.cursors.specs.Cursors.{Step, yielded, ended, stepBy, recordAt, fixedAt, funcStep, varStep, paramAt, paramStep}
+use Rattle.cursors.specs.CursorLaws.{recorded, fixed, param, lent-value}
 use Rattle.description.specs.Format.{Each}
 use Rattle.describe.specs.Members.{onward, yields, funcRecords, varRecords, paramRecords}
 

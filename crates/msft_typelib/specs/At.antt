@@ -2,15 +2,15 @@
 use Prim.Native.Nat.{ℕ}
 use Rattle.records.specs.declared.func.FuncRecord.{FuncRecord}
 use Rattle.records.specs.declared.typeinfo.TypeInfoEntry.{TypeInfoEntry}
-use Rattle.typelib.specs.declared.impltypes.ImplTypeCursor.{ImplTypeCursor}
-use Rattle.typelib.specs.declared.iterators.FuncCursor.{FuncCursor}
-use Rattle.typelib.specs.declared.iterators.VarCursor.{VarCursor}
-use Rattle.typelib.specs.declared.iterators.ParamCursor.{ParamCursor}
-use Rattle.typelib.specs.declared.iterators.GuidCursor.{GuidCursor}
-use Rattle.typelib.specs.declared.iterators.ImportCursor.{ImportCursor}
-use Rattle.typelib.specs.declared.iterators.ImpFileCursor.{ImpFileCursor}
-use Rattle.typelib.specs.declared.iterators.NameCursor.{NameCursor}
-use Rattle.typelib.specs.declared.iterators.TypeInfoCursor.{TypeInfoCursor}
+use Rattle.cursors.specs.declared.impltypes.ImplTypeCursor.{ImplTypeCursor}
+use Rattle.cursors.specs.declared.iterators.FuncCursor.{FuncCursor}
+use Rattle.cursors.specs.declared.iterators.VarCursor.{VarCursor}
+use Rattle.cursors.specs.declared.iterators.ParamCursor.{ParamCursor}
+use Rattle.cursors.specs.declared.iterators.GuidCursor.{GuidCursor}
+use Rattle.cursors.specs.declared.iterators.ImportCursor.{ImportCursor}
+use Rattle.cursors.specs.declared.iterators.ImpFileCursor.{ImpFileCursor}
+use Rattle.cursors.specs.declared.iterators.NameCursor.{NameCursor}
+use Rattle.cursors.specs.declared.iterators.TypeInfoCursor.{TypeInfoCursor}
 
 abbrev pub typeinfoAt : ℕ → ℕ → TypeInfoEntry
 typeinfoAt at len = record { at = at; len = len }

@@ -13,16 +13,16 @@ use Rattle.records.specs.declared.types.ConstValue.{ConstValue}
 use Rattle.records.specs.declared.types.TypeDescription.{TypeDescription}
 use Rattle.records.specs.declared.types.TypeDescription.the-variants as type
 use Rattle.typelib.specs.declared.descriptors.WordPair.{WordPair}
-use Rattle.typelib.specs.declared.impltypes.ImplTypeCursor.{ImplTypeCursor}
-use Rattle.typelib.specs.declared.iterators.FuncCursor.{FuncCursor}
-use Rattle.typelib.specs.declared.iterators.VarCursor.{VarCursor}
-use Rattle.typelib.specs.declared.iterators.ParamCursor.{ParamCursor}
-use Rattle.typelib.specs.declared.iterators.GuidCursor.{GuidCursor}
-use Rattle.typelib.specs.declared.iterators.ImportCursor.{ImportCursor}
-use Rattle.typelib.specs.declared.iterators.ImpFileCursor.{ImpFileCursor}
-use Rattle.typelib.specs.declared.iterators.NameCursor.{NameCursor}
-use Rattle.typelib.specs.declared.iterators.TypeInfoCursor.{TypeInfoCursor}
-use Rattle.typelib.specs.Cursors.{Step, yielded, ended, NameYield, entry, over}
+use Rattle.cursors.specs.declared.impltypes.ImplTypeCursor.{ImplTypeCursor}
+use Rattle.cursors.specs.declared.iterators.FuncCursor.{FuncCursor}
+use Rattle.cursors.specs.declared.iterators.VarCursor.{VarCursor}
+use Rattle.cursors.specs.declared.iterators.ParamCursor.{ParamCursor}
+use Rattle.cursors.specs.declared.iterators.GuidCursor.{GuidCursor}
+use Rattle.cursors.specs.declared.iterators.ImportCursor.{ImportCursor}
+use Rattle.cursors.specs.declared.iterators.ImpFileCursor.{ImpFileCursor}
+use Rattle.cursors.specs.declared.iterators.NameCursor.{NameCursor}
+use Rattle.cursors.specs.declared.iterators.TypeInfoCursor.{TypeInfoCursor}
+use Rattle.cursors.specs.Cursors.{Step, yielded, ended, NameYield, entry, over}
 use Rattle.typelib.specs.References.{Resolved, internal, external}
 use Rattle.description.specs.Format.{leBytes}
 use Rattle.description.specs.Description.{Shape, shapeOf}

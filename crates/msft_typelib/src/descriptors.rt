@@ -5,7 +5,7 @@ use typelib::TypeLib;
 ghost use Rattle.msft_typelib.specs.Call.{laid, libraryIn, outcome, past};
 ghost use Rattle.msft_typelib.specs.Values.{constant, description, pair, place, reference, size};
 ghost use Rattle.records.specs.Answer.{map};
-ghost use Rattle.typelib.specs.Constants.{constAt};
+ghost use Rattle.constants.specs.Constants.{constAt};
 ghost use Rattle.typelib.specs.Descriptors.{arrayDescAt, typeDescAt, typeDescription};
 ghost use Rattle.typelib.specs.References.{hrefIndex, hrefResolved, impFileAt};
 ghost use Rattle.typelib.specs.Tables.{lent};
@@ -97,5 +97,9 @@ pub extern "C" fn msft_const_value(s: &[u8], word: i32, out: &mut [u8]) -> i64
 {
     let p = TypeLib::parse(s);
     let lib = p.lib;
-    reply::lay(p.number, rows::of_const(lib.const_value(s, word)), out)
+    reply::lay(
+        p.number,
+        rows::of_const(constants::const_value(lib, s, word)),
+        out,
+    )
 }

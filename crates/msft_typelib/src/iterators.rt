@@ -1,26 +1,28 @@
 // Cursors: each goes in as its numbers, and comes back as bytes.
 use crate::reply;
 use crate::rows;
+use cursors::impltypes;
+use cursors::impltypes::ImplTypeCursor;
+use cursors::iterators;
+use cursors::iterators::FuncCursor;
+use cursors::iterators::GuidCursor;
+use cursors::iterators::ImpFileCursor;
+use cursors::iterators::ImportCursor;
+use cursors::iterators::NameCursor;
+use cursors::iterators::ParamCursor;
+use cursors::iterators::TypeInfoCursor;
+use cursors::iterators::VarCursor;
 use records::answer::Place;
 use records::answer::UsizeAnswer;
 use records::func::FuncRecord;
 use records::typeinfo::TypeInfoEntry;
 use typelib::TypeLib;
-use typelib::impltypes::ImplTypeCursor;
-use typelib::iterators::FuncCursor;
-use typelib::iterators::GuidCursor;
-use typelib::iterators::ImpFileCursor;
-use typelib::iterators::ImportCursor;
-use typelib::iterators::NameCursor;
-use typelib::iterators::ParamCursor;
-use typelib::iterators::TypeInfoCursor;
-use typelib::iterators::VarCursor;
 ghost use Rattle.msft_typelib.specs.At.{chainAt, funcAt, funcsAt, guidsAt, impFilesAt, importsAt, namesAt, paramsAt, typeinfoAt, typeinfosAt, varsAt};
 ghost use Rattle.msft_typelib.specs.Call.{laid, libraryIn, outcome, past};
 ghost use Rattle.msft_typelib.specs.Values.{chainCursor, chainStep, cursor, entryStep, funcNumbers, guidNumbers, impFileNumbers, importNumbers, nameNumbers, paramNumbers, size, step, typeinfoNumbers, varNumbers};
 ghost use Rattle.records.specs.Answer.{map, value};
-ghost use Rattle.typelib.specs.Chain.{implTypeStep, implTypesOf, walkOf};
-ghost use Rattle.typelib.specs.Cursors.{funcStep, funcsOf, guidStep, guidsOf, impFileStep, impFilesOf, importStep, importsOf, nameStep, namesOf, paramStep, paramsOf, typeinfoStep, varStep, varsOf};
+ghost use Rattle.cursors.specs.Chain.{implTypeStep, implTypesOf, walkOf};
+ghost use Rattle.cursors.specs.Cursors.{funcStep, funcsOf, guidStep, guidsOf, impFileStep, impFilesOf, importStep, importsOf, nameStep, namesOf, paramStep, paramsOf, typeinfoStep, varStep, varsOf};
 ghost use Prim.Native.Nat.{_-_};
 ghost use mathlib.Core.Path.{_≡_};
 
@@ -33,7 +35,7 @@ pub extern "C" fn msft_funcs(s: &[u8], at: usize, len: usize, out: &mut [u8]) ->
     let lib = p.lib;
     reply::lay(
         p.number,
-        rows::of_funcs(lib.funcs(s, TypeInfoEntry { at, len })),
+        rows::of_funcs(iterators::funcs(s, TypeInfoEntry { at, len })),
         out,
     )
 }
@@ -47,7 +49,7 @@ pub extern "C" fn msft_vars(s: &[u8], at: usize, len: usize, out: &mut [u8]) -> 
     let lib = p.lib;
     reply::lay(
         p.number,
-        rows::of_vars(lib.vars(s, TypeInfoEntry { at, len })),
+        rows::of_vars(iterators::vars(s, TypeInfoEntry { at, len })),
         out,
     )
 }
@@ -61,7 +63,7 @@ pub extern "C" fn msft_params(s: &[u8], at: usize, len: usize, out: &mut [u8]) -
     let lib = p.lib;
     reply::lay(
         p.number,
-        rows::of_params(lib.params(s, FuncRecord { at, len })),
+        rows::of_params(iterators::params(s, FuncRecord { at, len })),
         out,
     )
 }
@@ -73,7 +75,7 @@ pub extern "C" fn msft_guids(s: &[u8], out: &mut [u8]) -> i64
 {
     let p = TypeLib::parse(s);
     let lib = p.lib;
-    reply::lay(p.number, rows::of_guids(lib.guids()), out)
+    reply::lay(p.number, rows::of_guids(iterators::guids(lib)), out)
 }
 
 // The import records.
@@ -83,7 +85,7 @@ pub extern "C" fn msft_imports(s: &[u8], out: &mut [u8]) -> i64
 {
     let p = TypeLib::parse(s);
     let lib = p.lib;
-    reply::lay(p.number, rows::of_imports(lib.imports()), out)
+    reply::lay(p.number, rows::of_imports(iterators::imports(lib)), out)
 }
 
 // The import files.
@@ -93,7 +95,7 @@ pub extern "C" fn msft_imp_files(s: &[u8], out: &mut [u8]) -> i64
 {
     let p = TypeLib::parse(s);
     let lib = p.lib;
-    reply::lay(p.number, rows::of_imp_files(lib.imp_files()), out)
+    reply::lay(p.number, rows::of_imp_files(iterators::imp_files(lib)), out)
 }
 
 // The entries of the name table.
@@ -103,7 +105,7 @@ pub extern "C" fn msft_names(s: &[u8], out: &mut [u8]) -> i64
 {
     let p = TypeLib::parse(s);
     let lib = p.lib;
-    reply::lay(p.number, rows::of_names(lib.names()), out)
+    reply::lay(p.number, rows::of_names(iterators::names(lib)), out)
 }
 
 // The cursor over the types that `ti` implements, at the first.
@@ -115,7 +117,7 @@ pub extern "C" fn msft_impl_types(s: &[u8], at: usize, len: usize, out: &mut [u8
     let lib = p.lib;
     reply::lay(
         p.number,
-        rows::of_impl_types(lib.impl_types(s, TypeInfoEntry { at, len })),
+        rows::of_impl_types(impltypes::impl_types(lib, s, TypeInfoEntry { at, len })),
         out,
     )
 }
@@ -287,7 +289,7 @@ pub extern "C" fn msft_typeinfos(s: &[u8], out: &mut [u8]) -> i64
 {
     let p = TypeLib::parse(s);
     let lib = p.lib;
-    reply::lay(p.number, rows::of_typeinfos(lib.typeinfos()), out)
+    reply::lay(p.number, rows::of_typeinfos(iterators::typeinfos()), out)
 }
 
 // How many typeinfos are left. (Of the other cursors that is the number `remaining`.)

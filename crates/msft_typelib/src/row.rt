@@ -1,11 +1,11 @@
 // What is laid into an output: a row of numbers, each with its width.
+use cursors::iterators::NameCursor;
 use records::answer::Place;
 use records::answer::PlaceAnswer;
 use records::name::NameEntry;
 use records::types::ConstValue;
 use sheet_constants::Content;
 use sheet_constants::Shape;
-use typelib::iterators::NameCursor;
 use typelib::references::ImpFileAnswer;
 ghost use mathlib.Core.List.{_∷_, [], _++_};
 ghost use mathlib.Core.Path.{_≡_};

@@ -9,16 +9,18 @@ use crate::steps::State;
 use crate::steps::chain;
 use crate::steps::state_of;
 use crate::steps::step;
+use cursors::impltypes;
+use cursors::impltypes::ImplTypesAnswer;
+use cursors::impltypes::WalkAnswer;
+use cursors::iterators;
+use cursors::iterators::FuncsAnswer;
+use cursors::iterators::ParamsAnswer;
+use cursors::iterators::VarsAnswer;
 use records::answer::PlaceAnswer;
 use records::answer::UsizeAnswer;
 use records::func::FuncRecord;
 use records::typeinfo::TypeInfoEntry;
 use typelib::TypeLib;
-use typelib::impltypes::ImplTypesAnswer;
-use typelib::impltypes::WalkAnswer;
-use typelib::iterators::FuncsAnswer;
-use typelib::iterators::ParamsAnswer;
-use typelib::iterators::VarsAnswer;
 
 // A question's numbers are the place and the length of the record that the cursor is made from, if it
 // is made from one.
@@ -53,23 +55,23 @@ fn of_library(
 ) -> Progress {
     let from = match reading {
         57 => {
-            let cursor = lib.guids();
+            let cursor = iterators::guids(lib);
             state_of(cursor.pos, cursor.end, 0)
         }
         58 => {
-            let cursor = lib.names();
+            let cursor = iterators::names(lib);
             state_of(cursor.pos, cursor.end, cursor.start)
         }
         59 => {
-            let cursor = lib.imports();
+            let cursor = iterators::imports(lib);
             state_of(cursor.pos, cursor.end, 0)
         }
         60 => {
-            let cursor = lib.imp_files();
+            let cursor = iterators::imp_files(lib);
             state_of(cursor.pos, cursor.end, 0)
         }
         _ => {
-            let cursor = lib.typeinfos();
+            let cursor = iterators::typeinfos();
             state_of(cursor.index, 0, 0)
         }
     };
@@ -83,7 +85,7 @@ fn funcs(
     record: TypeInfoEntry,
     before: Progress,
 ) -> Progress {
-    match lib.funcs(lent, record) {
+    match iterators::funcs(lent, record) {
         FuncsAnswer::Value(cursor) => {
             let from = state_of(cursor.pos, cursor.end, cursor.remaining);
             run(lent, lib, recorded, 54, from, before)
@@ -99,7 +101,7 @@ fn vars(
     record: TypeInfoEntry,
     before: Progress,
 ) -> Progress {
-    match lib.vars(lent, record) {
+    match iterators::vars(lent, record) {
         VarsAnswer::Value(cursor) => {
             let from = state_of(cursor.pos, cursor.end, cursor.remaining);
             run(lent, lib, recorded, 55, from, before)
@@ -115,7 +117,7 @@ fn params(
     record: FuncRecord,
     before: Progress,
 ) -> Progress {
-    match lib.params(lent, record) {
+    match iterators::params(lent, record) {
         ParamsAnswer::Value(cursor) => {
             let from = state_of(cursor.pos, cursor.end, cursor.remaining);
             run(lent, lib, recorded, 56, from, before)
@@ -131,7 +133,7 @@ fn impl_types(
     record: TypeInfoEntry,
     before: Progress,
 ) -> Progress {
-    match lib.impl_types(lent, record) {
+    match impltypes::impl_types(lib, lent, record) {
         ImplTypesAnswer::Value(cursor) => {
             run(
                 lent,
@@ -153,7 +155,7 @@ fn walk(
     record: TypeInfoEntry,
     before: Progress,
 ) -> Progress {
-    let answer = match lib.impl_types(lent, record) {
+    let answer = match impltypes::impl_types(lib, lent, record) {
         ImplTypesAnswer::Value(cursor) => match cursor.walk(lent) {
             WalkAnswer::Took(count) => UsizeAnswer::Value(count),
             WalkAnswer::Refused(n) => UsizeAnswer::Refused(n),

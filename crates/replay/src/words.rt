@@ -59,7 +59,7 @@ fn by_number(
         35 => same_pair(recorded, before, lib.type_desc(lent, word)),
         36 => same_array(recorded, before, lib.array_desc(lent, word)),
         37 => same_description(recorded, before, lib.type_description(lent, word)),
-        38 => same_constant(recorded, before, lib.const_value(lent, word)),
+        38 => same_constant(recorded, before, constants::const_value(lib, lent, word)),
         39 => same_file(recorded, before, lib.imp_file(lent, word)),
         _ => before,
     }
@@ -79,7 +79,7 @@ fn by_pattern(
         35 => same_pair(recorded, before, lib.type_desc_at(lent, word)),
         36 => same_array(recorded, before, lib.array_desc_at(lent, word)),
         37 => same_description(recorded, before, lib.type_description_at(lent, word)),
-        38 => same_constant(recorded, before, lib.const_at(lent, word)),
+        38 => same_constant(recorded, before, constants::const_at(lib, lent, word)),
         39 => same_file(recorded, before, lib.imp_file_at(lent, word)),
         _ => before,
     }

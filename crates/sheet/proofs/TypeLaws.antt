@@ -12,10 +12,10 @@ use Rattle.records.specs.declared.answer.Place.{Place}
 use Rattle.records.specs.declared.typeinfo.TypeInfoEntry.{TypeInfoEntry}
 use Rattle.records.specs.Answer.{Answer, value, refused, map, bind}
 use Rattle.typelib.specs.declared.TypeLib.{TypeLib}
-use Rattle.typelib.specs.declared.impltypes.ImplTypeCursor.{ImplTypeCursor}
-use Rattle.typelib.specs.Chain.{implTypesOf, offsetAt, endsAt, walkOf, placeAt, recordsOf, cursorAt, implTypeStep}
-use Rattle.typelib.specs.ChainLaws.{getD-tabulate, walk-took, step-along}
-use Rattle.typelib.specs.Cursors.{Step, yielded, ended}
+use Rattle.cursors.specs.declared.impltypes.ImplTypeCursor.{ImplTypeCursor}
+use Rattle.cursors.specs.Chain.{implTypesOf, offsetAt, endsAt, walkOf, placeAt, recordsOf, cursorAt, implTypeStep}
+use Rattle.cursors.specs.ChainLaws.{getD-tabulate, walk-took, step-along}
+use Rattle.cursors.specs.Cursors.{Step, yielded, ended}
 use Rattle.typelib.specs.Tabulate.{tabulate, length-tabulate}
 use Rattle.typelib.specs.TypeInfos.{typeinfoOf}
 use Rattle.description.specs.Format.{encode, opt, list, joined, leBytes}

@@ -8,8 +8,8 @@ use Rattle.records.specs.Answer.{Answer, map}
 use Rattle.records.specs.Layout.{typeInfoBase}
 use Rattle.records.specs.Record.{bitsOf}
 use Rattle.typelib.specs.declared.TypeLib.{TypeLib}
-use Rattle.typelib.specs.declared.impltypes.ImplTypeCursor.{ImplTypeCursor}
-use Rattle.typelib.specs.Chain.{placeAt, recordsOf}
+use Rattle.cursors.specs.declared.impltypes.ImplTypeCursor.{ImplTypeCursor}
+use Rattle.cursors.specs.Chain.{placeAt, recordsOf}
 use Rattle.typelib.specs.Tabulate.{tabulate}
 use Rattle.description.specs.Format.{encode, opt, list, joined, leBytes}
 use Rattle.description.specs.Description.{Bytes, BaseShape, baseShapeOf}

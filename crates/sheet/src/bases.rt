@@ -1,16 +1,17 @@
 // What a type is based on: the interface under it, the interfaces that it implements, or the type that it names.
+use cursors::impltypes;
+use cursors::impltypes::ImplTypeCursor;
+use cursors::impltypes::ImplTypeStep;
+use cursors::impltypes::ImplTypesAnswer;
+use cursors::impltypes::WalkAnswer;
 use records::refrecord::RefRecord;
 use records::typeinfo::TypeInfoEntry;
 use sheet_trees::references;
 use sheet_trees::trees;
 use typelib::TypeLib;
-use typelib::impltypes::ImplTypeCursor;
-use typelib::impltypes::ImplTypeStep;
-use typelib::impltypes::ImplTypesAnswer;
-use typelib::impltypes::WalkAnswer;
 ghost use mathlib.Core.Path.{_≡_};
 ghost use Rattle.records.specs.Answer.{value, map};
-ghost use Rattle.typelib.specs.Chain.{walkOf, toldWalk};
+ghost use Rattle.cursors.specs.Chain.{walkOf, toldWalk};
 ghost use Rattle.description.specs.Format.{encode, list};
 ghost use Rattle.description.specs.Sheet.{edition-one, u32, implType};
 ghost use Rattle.describe.specs.Types.{implTypeAt, implTypesAt};
@@ -41,7 +42,7 @@ pub(crate) fn put_base(
 fn put_chain(s: &[u8], lib: TypeLib, ti: TypeInfoEntry, out: &mut [u8], to: usize) -> usize
     ensures { λ r. ⌜ Emitted (map (encode (list u32 (implType edition-one (lib .count)))) (implTypesAt (now (s .entry)) lib ti)) (put to) (now (out .entry)) (put r) (now (out .exit)) ⌝ }
 {
-    match lib.impl_types(s, ti) {
+    match impltypes::impl_types(lib, s, ti) {
         ImplTypesAnswer::Value(cursor) => put_walked(s, lib, cursor, cursor.walk(s), out, to),
         ImplTypesAnswer::Refused(n) => emit::put_refusal(to, n),
     }

@@ -20,7 +20,7 @@ use Rattle.records.specs.Record.{partOf}
 use Rattle.records.specs.Types.{vtOf}
 use Rattle.records.specs.TypesLaws.{getD-any}
 use Rattle.typelib.specs.declared.TypeLib.{TypeLib}
-use Rattle.typelib.specs.Constants.{constAt}
+use Rattle.constants.specs.Constants.{constAt}
 use Rattle.description.specs.Format.{encode, leBytes, opt}
 use Rattle.description.specs.Description.{Bytes, Shape, shapes, shapeOf}
 use Rattle.description.specs.Sheet.{bit, constant}

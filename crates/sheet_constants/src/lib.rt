@@ -1,11 +1,11 @@
 // Emitters of constants (document 01, "The sheet (added)"): the code of the case that was read, and then
 // the value, laid out by the shape that the code has.
+use constants::ConstAnswer;
 use records::answer;
 use records::answer::Place;
 use records::answer::PlaceAnswer;
 use records::types::ConstValue;
 use typelib::TypeLib;
-use typelib::constants::ConstAnswer;
 ghost use mathlib.Core.Path.{_≡_};
 ghost use Rattle.records.specs.Answer.{value};
 ghost use Rattle.records.specs.Told.{toldPlace};
@@ -171,7 +171,7 @@ pub fn put_constant(s: &[u8], v: ConstValue, out: &mut [u8], to: usize) -> usize
 pub fn put_opt_constant(s: &[u8], lib: TypeLib, word: u32, out: &mut [u8], to: usize) -> usize
     ensures { λ r. ⌜ Emitted (value (encode (opt constant) (constantOf (now (s .entry)) lib word))) (put to) (now (out .entry)) (put r) (now (out .exit)) ⌝ }
 {
-    match lib.const_at(s, word) {
+    match constants::const_at(lib, s, word) {
         ConstAnswer::Value(v) => {
             let t = emit::put_u8(out, to, 1);
             put_constant(s, v, out, t)

@@ -20,10 +20,10 @@ use Rattle.records.specs.Attributes.{defaultValueOffset}
 use Rattle.records.specs.Record.{signed32}
 use Rattle.records.specs.Told.{toldI32}
 use Rattle.typelib.specs.declared.TypeLib.{TypeLib}
-use Rattle.typelib.specs.declared.iterators.FuncCursor.{FuncCursor}
-use Rattle.typelib.specs.declared.iterators.VarCursor.{VarCursor}
-use Rattle.typelib.specs.declared.iterators.ParamCursor.{ParamCursor}
-use Rattle.typelib.specs.Cursors.{funcsOf, funcStep, varsOf, varStep, paramsOf, paramStep}
+use Rattle.cursors.specs.declared.iterators.FuncCursor.{FuncCursor}
+use Rattle.cursors.specs.declared.iterators.VarCursor.{VarCursor}
+use Rattle.cursors.specs.declared.iterators.ParamCursor.{ParamCursor}
+use Rattle.cursors.specs.Cursors.{funcsOf, funcStep, varsOf, varStep, paramsOf, paramStep}
 use Rattle.typelib.specs.TypeInfos.{funcMemid, varMemid, funcNameOffset, varNameOffset}
 use Rattle.description.specs.Format.{Format, encode, opt, list, leBytes}
 use Rattle.description.specs.Description.{Bytes, Tree, Parameter, Function, Variable, isConstant}

@@ -6,7 +6,7 @@ use native.Mathlib.Omega.{arith}
 use lib.ListN.{length}
 use Rattle.records.specs.declared.answer.Place.{Place}
 use Rattle.records.specs.Answer.{Answer, value, refused, map, bind}
-use Rattle.typelib.specs.Cursors.{Step, yielded, ended}
+use Rattle.cursors.specs.Cursors.{Step, yielded, ended}
 use Rattle.description.specs.Format.{Format, encode, list, joined, leBytes}
 use Rattle.description.specs.Description.{Bytes}
 use Rattle.description.specs.Sheet.{u16}

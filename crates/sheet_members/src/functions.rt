@@ -1,17 +1,18 @@
 // Functions.
 use crate::parameters;
+use cursors::iterators;
+use cursors::iterators::FuncCursor;
+use cursors::iterators::FuncStep;
+use cursors::iterators::FuncsAnswer;
 use records::func::FuncRecord;
 use records::typeinfo::TypeInfoEntry;
 use sheet_trees::trees;
 use sheet_trees::values;
 use typelib::TypeLib;
-use typelib::iterators::FuncCursor;
-use typelib::iterators::FuncStep;
-use typelib::iterators::FuncsAnswer;
 ghost use mathlib.Core.Path.{_≡_};
 ghost use lib.ListN.{length};
 ghost use Rattle.records.specs.Answer.{value, map};
-ghost use Rattle.typelib.specs.Cursors.{funcStep};
+ghost use Rattle.cursors.specs.Cursors.{funcStep};
 ghost use Rattle.description.specs.Format.{encode, list};
 ghost use Rattle.description.specs.Sheet.{edition-one, u16, function};
 ghost use Rattle.describe.specs.Values.{all, numbered};
@@ -24,7 +25,7 @@ ghost use Rattle.sheet_members.specs.Words.{functionWords};
 pub fn put_functions(s: &[u8], lib: TypeLib, ti: TypeInfoEntry, out: &mut [u8], to: usize) -> usize
     ensures { λ r. ⌜ Emitted (map (encode (list u16 (function edition-one (lib .count)))) (all (functionsOf (now (s .entry)) lib ti))) (put to) (now (out .entry)) (put r) (now (out .exit)) ⌝ }
 {
-    match lib.funcs(s, ti) {
+    match iterators::funcs(s, ti) {
         FuncsAnswer::Value(cursor) => {
             let t = emit::put_le(out, to, count(s, cursor) as u64, 2);
             put_each(s, lib, ti, cursor, out, t)

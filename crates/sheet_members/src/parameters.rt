@@ -1,18 +1,19 @@
 // Parameters.
+use cursors::iterators;
+use cursors::iterators::ParamCursor;
+use cursors::iterators::ParamStep;
+use cursors::iterators::ParamsAnswer;
 use records::answer::I32Answer;
 use records::func::FuncRecord;
 use records::param::ParameterInfo;
 use sheet_trees::trees;
 use sheet_trees::values;
 use typelib::TypeLib;
-use typelib::iterators::ParamCursor;
-use typelib::iterators::ParamStep;
-use typelib::iterators::ParamsAnswer;
 ghost use mathlib.Core.Path.{_≡_};
 ghost use lib.ListN.{length};
 ghost use Rattle.records.specs.Answer.{value, map};
 ghost use Rattle.records.specs.Told.{toldI32};
-ghost use Rattle.typelib.specs.Cursors.{paramStep};
+ghost use Rattle.cursors.specs.Cursors.{paramStep};
 ghost use Rattle.description.specs.Format.{encode, opt, list};
 ghost use Rattle.description.specs.Sheet.{edition-one, u16, constant, parameter};
 ghost use Rattle.describe.specs.Values.{all, numbered};
@@ -24,7 +25,7 @@ ghost use Rattle.sheet_members.specs.Lists.{layAll};
 pub fn put_parameters(s: &[u8], lib: TypeLib, func: FuncRecord, out: &mut [u8], to: usize) -> usize
     ensures { λ r. ⌜ Emitted (map (encode (list u16 (parameter edition-one (lib .count)))) (all (parametersOf (now (s .entry)) lib func))) (put to) (now (out .entry)) (put r) (now (out .exit)) ⌝ }
 {
-    match lib.params(s, func) {
+    match iterators::params(s, func) {
         ParamsAnswer::Value(cursor) => {
             let t = emit::put_le(out, to, count(s, cursor) as u64, 2);
             put_each(s, lib, func, cursor, out, t)

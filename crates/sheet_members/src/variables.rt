@@ -1,16 +1,17 @@
 // Variables.
+use cursors::iterators;
+use cursors::iterators::VarCursor;
+use cursors::iterators::VarStep;
+use cursors::iterators::VarsAnswer;
 use records::typeinfo::TypeInfoEntry;
 use records::var::VarRecord;
 use sheet_trees::trees;
 use sheet_trees::values;
 use typelib::TypeLib;
-use typelib::iterators::VarCursor;
-use typelib::iterators::VarStep;
-use typelib::iterators::VarsAnswer;
 ghost use mathlib.Core.Path.{_≡_};
 ghost use lib.ListN.{length};
 ghost use Rattle.records.specs.Answer.{value, map};
-ghost use Rattle.typelib.specs.Cursors.{varStep};
+ghost use Rattle.cursors.specs.Cursors.{varStep};
 ghost use Rattle.description.specs.Format.{encode, list};
 ghost use Rattle.description.specs.Description.{isConstant};
 ghost use Rattle.description.specs.Sheet.{edition-one, u16, variable};
@@ -24,7 +25,7 @@ ghost use Rattle.sheet_members.specs.Words.{valueBytes};
 pub fn put_variables(s: &[u8], lib: TypeLib, ti: TypeInfoEntry, out: &mut [u8], to: usize) -> usize
     ensures { λ r. ⌜ Emitted (map (encode (list u16 (variable edition-one (lib .count)))) (all (variablesOf (now (s .entry)) lib ti))) (put to) (now (out .entry)) (put r) (now (out .exit)) ⌝ }
 {
-    match lib.vars(s, ti) {
+    match iterators::vars(s, ti) {
         VarsAnswer::Value(cursor) => {
             let t = emit::put_le(out, to, count(s, cursor) as u64, 2);
             put_each(s, lib, ti, cursor, out, t)

@@ -12,14 +12,4 @@ pub mod Descriptors
 pub mod DescriptorLaws
 pub mod References
 pub mod ReferenceLaws
-pub mod Cursors
-pub mod CursorLaws
-pub mod Search
-pub mod Chain
-pub mod ChainLaws
-pub mod Constants
-pub mod ConstantLaws
-pub mod Members
-pub mod MemberLaws
 pub mod Told
-pub mod Edges

@@ -2,7 +2,7 @@
 use mathlib.Core.Path.{_≡_, refl, sym, _∙_, ap}
 use mathlib.Core.Bool.{Bool, true, false, cond, _&&_}
 use mathlib.Core.List.{List}
-use Prim.Native.Nat.{ℕ, _+_, _≤_, _<_}
+use Prim.Native.Nat.{ℕ, _+_, _^_, _≤_, _<_}
 use native.Mathlib.Nat.{zero-add}
 use native.Mathlib.Omega.{arith}
 use lib.Dec.{leb, ltb, eqb}
@@ -171,3 +171,27 @@ record-inside fixed s at len p =
     let b : p .len ≡ len = ap (λ (x : Place). x .len) q in
     omega (arith, h .inside))
     (λ n e. let z : _≡_ {A = ℕ} 0 1 = cc in absurd (omega arith))
+
+-- ---- a segment's place is small
+
+pub record Small (p : Place) : Type 0 where
+  pub start : p .at < 2 ^ 31
+  pub size : p .len < 2 ^ 31
+
+pub small : (lib : TypeLib) (k : ℕ) (p : Place) → value p ≡ segmentOf lib k → Small p
+unfolding segmentOf segmentPlace
+small lib k p =
+    let P : Answer Place → Type 0 = λ a. value p ≡ a → Small p in
+    let no : P (refused 9) = λ e. let z : _≡_ {A = ℕ} 0 1 = cc in absurd (omega arith) in
+    let e = getD (lib .segments) k (record { offset = 0; length = 0 }) in
+    cond-elim P (leb 15 k) _ _ (λ _. no) (λ _.
+    cond-elim P (leb 0x80000000 (e .offset)) _ _ (λ _. no) (λ h1.
+    cond-elim P (eqb (e .length) 0) _ _ (λ _. no) (λ _.
+    cond-elim P (leb 0x80000000 (e .length)) _ _ (λ _. no) (λ h2 f.
+    let q : p ≡ record { at = e .offset; len = e .length } = cc in
+    let a : p .at ≡ e .offset = ap (λ (x : Place). x .at) q in
+    let b : p .len ≡ e .length = ap (λ (x : Place). x .len) q in
+    record {
+      start = omega (arith, leb-false 0x80000000 (e .offset) h1);
+      size = omega (arith, leb-false 0x80000000 (e .length) h2);
+    }))))

@@ -44,3 +44,7 @@ placeIn strict s table offset size =
 -- the same of the table in segment k: 9 where it is missing
 abbrev pub tablePlace : Bool → List ℕ → TypeLib → ℕ → ℕ → ℕ → Answer Place
 tablePlace strict s lib k offset size = lent s (bind (segmentOf lib k) (λ table. placeIn strict s table offset size))
+
+abbrev pub tableOf : Answer Place → Place
+tableOf (value p) = p
+tableOf (refused n) = record { at = 0; len = 0 }

@@ -5,24 +5,20 @@
 // checks.
 use records::answer::Place;
 
-pub mod constants;
 pub mod descriptors;
 mod header;
-pub mod impltypes;
-pub mod iterators;
-mod members;
 mod names;
 pub mod references;
 pub mod typeinfos;
 
 use records::answer::PlaceAnswer;
 ghost use mathlib.Core.Path.{_≡_};
-ghost use Prim.Native.Nat.{_+_, _≤_};
+ghost use Prim.Native.Nat.{_+_, _^_, _≤_, _<_};
 ghost use lib.Dec.{leb};
 ghost use lib.ListN.{length};
 ghost use Rattle.records.specs.Told.{toldPlace};
 ghost use Rattle.typelib.specs.Header.{tableAt, segmentAt, segmentsAt, parseOf, parsed};
-ghost use Rattle.typelib.specs.Tables.{segmentOf, inTable, placeIn, tablePlace};
+ghost use Rattle.typelib.specs.Tables.{segmentOf, inTable, placeIn, tablePlace, tableOf};
 ghost use Rattle.records.specs.Answer.{refused};
 
 const LIMIT: usize = 16_777_216;
@@ -167,6 +163,16 @@ impl TypeLib {
             at: offset as usize,
             len: length as usize,
         })
+    }
+
+    // A segment's place, or an empty one at the start of the file where it is missing.
+    pub fn table(self, index: usize) -> Place
+        ensures { λ r. ⌜ (r ≡ tableOf (segmentOf self index)) × (r .at + r .len < 2 ^ 32) ⌝ }
+    {
+        match self.segment(index) {
+            PlaceAnswer::Value(place) => place,
+            PlaceAnswer::Refused(_) => Place { at: 0, len: 0 },
+        }
     }
 
     // The one way to each table: where the `size` bytes at `offset` of segment `index` lie.

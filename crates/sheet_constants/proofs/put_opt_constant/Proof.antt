@@ -1,6 +1,6 @@
 use Rattle.sheet_constants.specs.Laws.{none-laid, some-laid}
 use Rattle.emit.specs.Laws.{join, known}
-use Rattle.typelib.specs.Told.{toldConst}
+use Rattle.constants.specs.Told.{toldConst}
 use Rattle.records.specs.AnswerLaws.{tells}
 use borrow.Author.Needs.{needs}
 use Rattle.sheet_constants.proofs.put_opt_constant.Statement.{statement}

@@ -7,7 +7,7 @@ use Rattle.msft_typelib.proofs.iterators.msft_typeinfo_size_hint.Lts as
 use Rattle.msft_typelib.proofs.reply.lay.Reads as lay-reads
 use Rattle.msft_typelib.proofs.rows.of_size.Reads as of-size-reads
 use Rattle.typelib.proofs.TypeLib.parse.Reads as parse-reads
-use Rattle.typelib.proofs.iterators.TypeInfoCursor.size_hint.Reads as size-hint-reads
+use Rattle.cursors.proofs.iterators.TypeInfoCursor.size_hint.Reads as size-hint-reads
 
 -- src/iterators.rt:298:9
 parse-requires : tie.Need-parse-requires

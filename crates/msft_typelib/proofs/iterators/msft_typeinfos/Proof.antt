@@ -7,7 +7,7 @@ use Rattle.msft_typelib.proofs.iterators.msft_typeinfos.Lts as lts
 use Rattle.msft_typelib.proofs.reply.lay.Reads as lay-reads
 use Rattle.msft_typelib.proofs.rows.of_typeinfos.Reads as of-typeinfos-reads
 use Rattle.typelib.proofs.TypeLib.parse.Reads as parse-reads
-use Rattle.typelib.proofs.TypeLib.typeinfos.Reads as typeinfos-reads
+use Rattle.cursors.proofs.iterators.typeinfos.Reads as typeinfos-reads
 
 -- src/iterators.rt:288:9
 parse-requires : tie.Need-parse-requires

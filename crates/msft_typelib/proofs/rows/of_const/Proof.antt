@@ -1,5 +1,5 @@
 use Rattle.msft_typelib.specs.Values.{constant}
-use Rattle.typelib.specs.Told.{toldConst}
+use Rattle.constants.specs.Told.{toldConst}
 use Rattle.records.specs.Answer.{map}
 use Rattle.msft_typelib.specs.LayLaws.{shown}
 use borrow.Author.Needs.{needs}

@@ -1,6 +1,6 @@
 use Rattle.msft_typelib.specs.Values.{step}
 use Rattle.msft_typelib.specs.Values.{funcNumbers}
-use Rattle.typelib.specs.Told.{toldFuncStep}
+use Rattle.cursors.specs.Told.{toldFuncStep}
 use Rattle.msft_typelib.specs.LayLaws.{shown}
 use borrow.Author.Needs.{needs}
 use Rattle.msft_typelib.proofs.rows.of_func_step.Statement.{statement}

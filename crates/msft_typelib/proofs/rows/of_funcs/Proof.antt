@@ -1,6 +1,6 @@
 use Rattle.msft_typelib.specs.Values.{funcNumbers}
 use Rattle.msft_typelib.specs.Values.{cursor}
-use Rattle.typelib.specs.Told.{toldFuncs}
+use Rattle.cursors.specs.Told.{toldFuncs}
 use Rattle.records.specs.Answer.{map}
 use Rattle.msft_typelib.specs.LayLaws.{shown}
 use borrow.Author.Needs.{needs}

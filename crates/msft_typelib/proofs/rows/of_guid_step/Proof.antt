@@ -1,6 +1,6 @@
 use Rattle.msft_typelib.specs.Values.{step}
 use Rattle.msft_typelib.specs.Values.{guidNumbers}
-use Rattle.typelib.specs.Told.{toldGuidStep}
+use Rattle.cursors.specs.Told.{toldGuidStep}
 use Rattle.msft_typelib.specs.LayLaws.{shown}
 use borrow.Author.Needs.{needs}
 use Rattle.msft_typelib.proofs.rows.of_guid_step.Statement.{statement}

@@ -1,6 +1,6 @@
 use Rattle.msft_typelib.specs.Values.{step}
 use Rattle.msft_typelib.specs.Values.{impFileNumbers}
-use Rattle.typelib.specs.Told.{toldImpFileStep}
+use Rattle.cursors.specs.Told.{toldImpFileStep}
 use Rattle.msft_typelib.specs.LayLaws.{shown}
 use borrow.Author.Needs.{needs}
 use Rattle.msft_typelib.proofs.rows.of_imp_file_step.Statement.{statement}

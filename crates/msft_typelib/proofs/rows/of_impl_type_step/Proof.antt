@@ -1,6 +1,6 @@
 use mathlib.Core.Path.{_∙_}
 use Rattle.msft_typelib.specs.Values.{chainStep}
-use Rattle.typelib.specs.Chain.{toldImplTypeStep}
+use Rattle.cursors.specs.Chain.{toldImplTypeStep}
 use Rattle.msft_typelib.specs.LayLaws.{shown}
 use borrow.Author.Needs.{needs}
 use Rattle.msft_typelib.proofs.rows.of_impl_type_step.Statement.{statement}

@@ -1,6 +1,6 @@
 use mathlib.Core.Path.{_∙_}
 use Rattle.msft_typelib.specs.Values.{chainCursor}
-use Rattle.typelib.specs.Chain.{toldImplTypes}
+use Rattle.cursors.specs.Chain.{toldImplTypes}
 use Rattle.records.specs.Answer.{map}
 use Rattle.msft_typelib.specs.LayLaws.{shown}
 use borrow.Author.Needs.{needs}

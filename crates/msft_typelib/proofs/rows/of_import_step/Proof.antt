@@ -1,6 +1,6 @@
 use Rattle.msft_typelib.specs.Values.{step}
 use Rattle.msft_typelib.specs.Values.{importNumbers}
-use Rattle.typelib.specs.Told.{toldImportStep}
+use Rattle.cursors.specs.Told.{toldImportStep}
 use Rattle.msft_typelib.specs.LayLaws.{shown}
 use borrow.Author.Needs.{needs}
 use Rattle.msft_typelib.proofs.rows.of_import_step.Statement.{statement}

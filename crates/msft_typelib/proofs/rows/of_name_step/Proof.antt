@@ -1,5 +1,5 @@
 use Rattle.msft_typelib.specs.Values.{entryStep}
-use Rattle.typelib.specs.Told.{toldNameStep}
+use Rattle.cursors.specs.Told.{toldNameStep}
 use Rattle.msft_typelib.specs.LayLaws.{shown}
 use borrow.Author.Needs.{needs}
 use Rattle.msft_typelib.proofs.rows.of_name_step.Statement.{statement}

@@ -1,6 +1,6 @@
 use Rattle.msft_typelib.specs.Values.{step}
 use Rattle.msft_typelib.specs.Values.{paramNumbers}
-use Rattle.typelib.specs.Told.{toldParamStep}
+use Rattle.cursors.specs.Told.{toldParamStep}
 use Rattle.msft_typelib.specs.LayLaws.{shown}
 use borrow.Author.Needs.{needs}
 use Rattle.msft_typelib.proofs.rows.of_param_step.Statement.{statement}

@@ -1,6 +1,6 @@
 use Rattle.msft_typelib.specs.Values.{typeinfoNumbers}
 use Rattle.msft_typelib.specs.Values.{step}
-use Rattle.typelib.specs.Told.{toldTypeInfoStep}
+use Rattle.cursors.specs.Told.{toldTypeInfoStep}
 use Rattle.msft_typelib.specs.LayLaws.{shown}
 use borrow.Author.Needs.{needs}
 use Rattle.msft_typelib.proofs.rows.of_typeinfo_step.Statement.{statement}

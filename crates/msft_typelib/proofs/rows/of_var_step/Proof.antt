@@ -1,6 +1,6 @@
 use Rattle.msft_typelib.specs.Values.{varNumbers}
 use Rattle.msft_typelib.specs.Values.{step}
-use Rattle.typelib.specs.Told.{toldVarStep}
+use Rattle.cursors.specs.Told.{toldVarStep}
 use Rattle.msft_typelib.specs.LayLaws.{shown}
 use borrow.Author.Needs.{needs}
 use Rattle.msft_typelib.proofs.rows.of_var_step.Statement.{statement}

@@ -1,5 +1,5 @@
 use Rattle.msft_typelib.specs.Values.{size}
-use Rattle.typelib.specs.Chain.{toldWalk}
+use Rattle.cursors.specs.Chain.{toldWalk}
 use Rattle.records.specs.Answer.{map}
 use Rattle.msft_typelib.specs.LayLaws.{shown}
 use borrow.Author.Needs.{needs}

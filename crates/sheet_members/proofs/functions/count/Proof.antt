@@ -1,9 +1,9 @@
 use Rattle.sheet_members.specs.Lists.{counted-more, counted-none}
 use Rattle.describe.specs.YieldLaws.{func-yielded}
 use Rattle.describe.specs.Members.{yields}
-use Rattle.typelib.specs.Told.{toldFuncStep}
-use Rattle.typelib.specs.Cursors.{funcStep}
-use Rattle.typelib.specs.declared.iterators.FuncCursor.{FuncCursor}
+use Rattle.cursors.specs.Told.{toldFuncStep}
+use Rattle.cursors.specs.Cursors.{funcStep}
+use Rattle.cursors.specs.declared.iterators.FuncCursor.{FuncCursor}
 use Rattle.records.specs.AnswerLaws.{tells}
 use lib.ListN.{length}
 use mathlib.Core.Path.{_≡_}
@@ -14,7 +14,7 @@ use Rattle.sheet_members.proofs.functions.count.Statement.{statement}
 use Rattle.sheet_members.proofs.functions.count.Tie as tie
 use Rattle.sheet_members.proofs.functions.count.Reads as reads
 use Rattle.sheet_members.proofs.functions.count.Lts as lts
-use Rattle.typelib.proofs.iterators.FuncCursor.step.Reads as step-reads
+use Rattle.cursors.proofs.iterators.FuncCursor.step.Reads as step-reads
 
 abbrev Inv-loop : tie.InvT-loop
 Inv-loop s c₀ n₀ c n = (n + length (yields (funcStep s) (c .remaining) c) ≡ length (yields (funcStep s) (c₀ .remaining) c₀)) × (n + c .remaining ≡ c₀ .remaining)

@@ -5,9 +5,9 @@ use Rattle.describe.specs.YieldLaws.{func-yielded}
 use Rattle.describe.specs.Members.{yields, functionOf}
 use Rattle.describe.specs.Values.{numbered}
 use Rattle.description.specs.Sheet.{edition-one, function}
-use Rattle.typelib.specs.Told.{toldFuncStep}
-use Rattle.typelib.specs.Cursors.{funcStep}
-use Rattle.typelib.specs.declared.iterators.FuncCursor.{FuncCursor}
+use Rattle.cursors.specs.Told.{toldFuncStep}
+use Rattle.cursors.specs.Cursors.{funcStep}
+use Rattle.cursors.specs.declared.iterators.FuncCursor.{FuncCursor}
 use Rattle.records.specs.AnswerLaws.{tells}
 use mathlib.Core.Path.{_≡_}
 use Prim.Native.Nat.{_+_, _^_, _<_}
@@ -18,7 +18,7 @@ use Rattle.sheet_members.proofs.functions.put_each.Tie as tie
 use Rattle.sheet_members.proofs.functions.put_each.Reads as reads
 use Rattle.sheet_members.proofs.functions.put_each.Lts as lts
 use Rattle.sheet_members.proofs.functions.put_function.Reads as put-function-reads
-use Rattle.typelib.proofs.iterators.FuncCursor.step.Reads as step-reads
+use Rattle.cursors.proofs.iterators.FuncCursor.step.Reads as step-reads
 
 abbrev Inv-loop : tie.InvT-loop
 Inv-loop s lib ti out₀ to t₀ c₀ i₀ out t c i = Left (layAll (function edition-one (lib .count)) (numbered (functionOf s lib ti) 0 (yields (funcStep s) (c₀ .remaining) c₀))) (put t₀) out₀ (layAll (function edition-one (lib .count)) (numbered (functionOf s lib ti) i (yields (funcStep s) (c .remaining) c))) (put t) out × (i + c .remaining ≡ c₀ .remaining) × (c₀ .remaining < 2 ^ 64)

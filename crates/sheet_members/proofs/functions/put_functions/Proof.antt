@@ -1,7 +1,7 @@
 use borrow.Author.Needs.{needs}
 use Rattle.sheet_members.proofs.MemberLaws.{functions-some, functions-none}
 use Rattle.emit.specs.Laws.{known, join}
-use Rattle.typelib.specs.Told.{toldFuncs}
+use Rattle.cursors.specs.Told.{toldFuncs}
 use mathlib.Core.Path.{ap}
 use Rattle.sheet_members.proofs.functions.put_functions.Statement.{statement}
 use Rattle.sheet_members.proofs.functions.put_functions.Tie as tie
@@ -11,7 +11,7 @@ use Rattle.emit.proofs.put_le.Reads as put-le-reads
 use Rattle.emit.proofs.put_u16.Reads as put-u16-reads
 use Rattle.sheet_members.proofs.functions.count.Reads as count-reads
 use Rattle.sheet_members.proofs.functions.put_each.Reads as put-each-reads
-use Rattle.typelib.proofs.TypeLib.funcs.Reads as funcs-reads
+use Rattle.cursors.proofs.iterators.funcs.Reads as funcs-reads
 
 -- src/functions.rt:28:11
 funcs-requires : tie.Need-funcs-requires

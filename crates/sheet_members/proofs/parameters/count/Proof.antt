@@ -1,9 +1,9 @@
 use Rattle.sheet_members.specs.Lists.{counted-more, counted-none}
 use Rattle.describe.specs.YieldLaws.{param-yielded}
 use Rattle.describe.specs.Members.{yields}
-use Rattle.typelib.specs.Told.{toldParamStep}
-use Rattle.typelib.specs.Cursors.{paramStep}
-use Rattle.typelib.specs.declared.iterators.ParamCursor.{ParamCursor}
+use Rattle.cursors.specs.Told.{toldParamStep}
+use Rattle.cursors.specs.Cursors.{paramStep}
+use Rattle.cursors.specs.declared.iterators.ParamCursor.{ParamCursor}
 use Rattle.records.specs.AnswerLaws.{tells}
 use lib.ListN.{length}
 use mathlib.Core.Path.{_≡_}
@@ -14,7 +14,7 @@ use Rattle.sheet_members.proofs.parameters.count.Statement.{statement}
 use Rattle.sheet_members.proofs.parameters.count.Tie as tie
 use Rattle.sheet_members.proofs.parameters.count.Reads as reads
 use Rattle.sheet_members.proofs.parameters.count.Lts as lts
-use Rattle.typelib.proofs.iterators.ParamCursor.step.Reads as step-reads
+use Rattle.cursors.proofs.iterators.ParamCursor.step.Reads as step-reads
 
 abbrev Inv-loop : tie.InvT-loop
 Inv-loop s c₀ n₀ c n = (n + length (yields (paramStep s) (c .remaining) c) ≡ length (yields (paramStep s) (c₀ .remaining) c₀)) × (n + c .remaining ≡ c₀ .remaining)

@@ -5,9 +5,9 @@ use Rattle.describe.specs.YieldLaws.{param-yielded}
 use Rattle.describe.specs.Members.{yields, parameterOf}
 use Rattle.describe.specs.Values.{numbered}
 use Rattle.description.specs.Sheet.{edition-one, parameter}
-use Rattle.typelib.specs.Told.{toldParamStep}
-use Rattle.typelib.specs.Cursors.{paramStep}
-use Rattle.typelib.specs.declared.iterators.ParamCursor.{ParamCursor}
+use Rattle.cursors.specs.Told.{toldParamStep}
+use Rattle.cursors.specs.Cursors.{paramStep}
+use Rattle.cursors.specs.declared.iterators.ParamCursor.{ParamCursor}
 use Rattle.records.specs.AnswerLaws.{tells}
 use mathlib.Core.Path.{_≡_}
 use Prim.Native.Nat.{_+_, _^_, _<_}
@@ -18,7 +18,7 @@ use Rattle.sheet_members.proofs.parameters.put_each.Tie as tie
 use Rattle.sheet_members.proofs.parameters.put_each.Reads as reads
 use Rattle.sheet_members.proofs.parameters.put_each.Lts as lts
 use Rattle.sheet_members.proofs.parameters.put_parameter.Reads as put-parameter-reads
-use Rattle.typelib.proofs.iterators.ParamCursor.step.Reads as step-reads
+use Rattle.cursors.proofs.iterators.ParamCursor.step.Reads as step-reads
 
 abbrev Inv-loop : tie.InvT-loop
 Inv-loop s lib func out₀ to t₀ c₀ i₀ out t c i = Left (layAll (parameter edition-one (lib .count)) (numbered (parameterOf s lib func) 0 (yields (paramStep s) (c₀ .remaining) c₀))) (put t₀) out₀ (layAll (parameter edition-one (lib .count)) (numbered (parameterOf s lib func) i (yields (paramStep s) (c .remaining) c))) (put t) out × (i + c .remaining ≡ c₀ .remaining) × (c₀ .remaining < 2 ^ 64)

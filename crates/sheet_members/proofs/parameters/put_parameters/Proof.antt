@@ -1,6 +1,6 @@
 use Rattle.sheet_members.proofs.MemberLaws.{parameters-some, parameters-none}
 use Rattle.emit.specs.Laws.{known, join}
-use Rattle.typelib.specs.Told.{toldParams}
+use Rattle.cursors.specs.Told.{toldParams}
 use mathlib.Core.Path.{ap}
 use borrow.Author.Needs.{needs}
 use Rattle.sheet_members.proofs.parameters.put_parameters.Statement.{statement}
@@ -11,7 +11,7 @@ use Rattle.emit.proofs.put_le.Reads as put-le-reads
 use Rattle.emit.proofs.put_u16.Reads as put-u16-reads
 use Rattle.sheet_members.proofs.parameters.count.Reads as count-reads
 use Rattle.sheet_members.proofs.parameters.put_each.Reads as put-each-reads
-use Rattle.typelib.proofs.TypeLib.params.Reads as params-reads
+use Rattle.cursors.proofs.iterators.params.Reads as params-reads
 
 -- src/parameters.rt:28:11
 params-requires : tie.Need-params-requires

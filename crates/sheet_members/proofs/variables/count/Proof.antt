@@ -1,9 +1,9 @@
 use Rattle.sheet_members.specs.Lists.{counted-more, counted-none}
 use Rattle.describe.specs.YieldLaws.{var-yielded}
 use Rattle.describe.specs.Members.{yields}
-use Rattle.typelib.specs.Told.{toldVarStep}
-use Rattle.typelib.specs.Cursors.{varStep}
-use Rattle.typelib.specs.declared.iterators.VarCursor.{VarCursor}
+use Rattle.cursors.specs.Told.{toldVarStep}
+use Rattle.cursors.specs.Cursors.{varStep}
+use Rattle.cursors.specs.declared.iterators.VarCursor.{VarCursor}
 use Rattle.records.specs.AnswerLaws.{tells}
 use lib.ListN.{length}
 use mathlib.Core.Path.{_≡_}
@@ -14,7 +14,7 @@ use Rattle.sheet_members.proofs.variables.count.Statement.{statement}
 use Rattle.sheet_members.proofs.variables.count.Tie as tie
 use Rattle.sheet_members.proofs.variables.count.Reads as reads
 use Rattle.sheet_members.proofs.variables.count.Lts as lts
-use Rattle.typelib.proofs.iterators.VarCursor.step.Reads as step-reads
+use Rattle.cursors.proofs.iterators.VarCursor.step.Reads as step-reads
 
 abbrev Inv-loop : tie.InvT-loop
 Inv-loop s c₀ n₀ c n = (n + length (yields (varStep s) (c .remaining) c) ≡ length (yields (varStep s) (c₀ .remaining) c₀)) × (n + c .remaining ≡ c₀ .remaining)

@@ -5,9 +5,9 @@ use Rattle.describe.specs.YieldLaws.{var-yielded}
 use Rattle.describe.specs.Members.{yields, variableOf}
 use Rattle.describe.specs.Values.{numbered}
 use Rattle.description.specs.Sheet.{edition-one, variable}
-use Rattle.typelib.specs.Told.{toldVarStep}
-use Rattle.typelib.specs.Cursors.{varStep}
-use Rattle.typelib.specs.declared.iterators.VarCursor.{VarCursor}
+use Rattle.cursors.specs.Told.{toldVarStep}
+use Rattle.cursors.specs.Cursors.{varStep}
+use Rattle.cursors.specs.declared.iterators.VarCursor.{VarCursor}
 use Rattle.records.specs.AnswerLaws.{tells}
 use mathlib.Core.Path.{_≡_}
 use Prim.Native.Nat.{_+_, _^_, _<_}
@@ -18,7 +18,7 @@ use Rattle.sheet_members.proofs.variables.put_each.Tie as tie
 use Rattle.sheet_members.proofs.variables.put_each.Reads as reads
 use Rattle.sheet_members.proofs.variables.put_each.Lts as lts
 use Rattle.sheet_members.proofs.variables.put_variable.Reads as put-variable-reads
-use Rattle.typelib.proofs.iterators.VarCursor.step.Reads as step-reads
+use Rattle.cursors.proofs.iterators.VarCursor.step.Reads as step-reads
 
 abbrev Inv-loop : tie.InvT-loop
 Inv-loop s lib ti out₀ to t₀ c₀ i₀ out t c i = Left (layAll (variable edition-one (lib .count)) (numbered (variableOf s lib ti) 0 (yields (varStep s) (c₀ .remaining) c₀))) (put t₀) out₀ (layAll (variable edition-one (lib .count)) (numbered (variableOf s lib ti) i (yields (varStep s) (c .remaining) c))) (put t) out × (i + c .remaining ≡ c₀ .remaining) × (c₀ .remaining < 2 ^ 64)

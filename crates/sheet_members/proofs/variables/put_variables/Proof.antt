@@ -1,6 +1,6 @@
 use Rattle.sheet_members.proofs.MemberLaws.{variables-some, variables-none}
 use Rattle.emit.specs.Laws.{known, join}
-use Rattle.typelib.specs.Told.{toldVars}
+use Rattle.cursors.specs.Told.{toldVars}
 use mathlib.Core.Path.{ap}
 use borrow.Author.Needs.{needs}
 use Rattle.sheet_members.proofs.variables.put_variables.Statement.{statement}
@@ -11,7 +11,7 @@ use Rattle.emit.proofs.put_le.Reads as put-le-reads
 use Rattle.emit.proofs.put_u16.Reads as put-u16-reads
 use Rattle.sheet_members.proofs.variables.count.Reads as count-reads
 use Rattle.sheet_members.proofs.variables.put_each.Reads as put-each-reads
-use Rattle.typelib.proofs.TypeLib.vars.Reads as vars-reads
+use Rattle.cursors.proofs.iterators.vars.Reads as vars-reads
 
 -- src/variables.rt:28:11
 vars-requires : tie.Need-vars-requires

@@ -1,5 +1,5 @@
-use Rattle.typelib.specs.CursorLaws.{small}
-use Rattle.typelib.specs.Cursors.{tableOf}
+use Rattle.typelib.specs.TableLaws.{small}
+use Rattle.typelib.specs.Tables.{tableOf}
 use Rattle.records.specs.Told.{toldPlace}
 use Rattle.records.specs.AnswerLaws.{tells}
 use mathlib.Core.Path.{ap}

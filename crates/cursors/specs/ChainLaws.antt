@@ -1,0 +1,349 @@
+-- Laws of `Chain`. A chain ends or returns to an offset already passed, never both, and the walk says which. Assumes nothing.
+use mathlib.Core.Path.{_≡_, refl, sym, ap, _∙_}
+use mathlib.Core.Bool.{Bool, true, false, _||_}
+use mathlib.Core.List.{List, [], _∷_, _++_}
+use mathlib.Core.Logic.{_↔_}
+use Prim.Native.Nat.{ℕ, zero, suc, _+_, _-_, _≤_, _<_}
+use native.Mathlib.Nat.{add-zero, add-suc}
+use native.Mathlib.Numerals.{add-one}
+use native.Mathlib.Omega.{arith}
+use lib.Dec.{leb, ltb, eqb}
+use lib.ListN.{length, getD, List·getD-append}
+use lib.Seq.{getD-at}
+use borrow.Author.Tests.{ltb-true, ltb-false, leb-true, leb-false, eqb-true, eq-eqb}
+use Rattle.util.specs.Read.{cond-elim}
+use Rattle.records.specs.declared.answer.Place.{Place}
+use Rattle.records.specs.declared.typeinfo.TypeInfoEntry.{TypeInfoEntry}
+use Rattle.records.specs.Answer.{Answer, value, refused, map}
+use Rattle.records.specs.Layout.{sizeOf, refRecord, typeInfoBase}
+use Rattle.records.specs.Record.{limit, field}
+use Rattle.typelib.specs.declared.TypeLib.{TypeLib}
+use Rattle.cursors.specs.declared.impltypes.ImplTypeCursor.{ImplTypeCursor}
+use Rattle.cursors.specs.Search.{apart, Some, some-below, none-below, before-first, at-first, Twice, twice}
+use Rattle.typelib.specs.Tables.{lent, negative, inTable, placeIn}
+use Rattle.typelib.specs.TableLaws.{lent-fits, found-in}
+use Rattle.typelib.specs.Tabulate.{tabulate, length-tabulate}
+use Rattle.cursors.specs.Cursors.{yielded, ended}
+use Rattle.cursors.specs.Chain.{referenceTable, implTypesOf, referenceAt, onext, implTypeStepFrom, implTypeStep, isRefused}
+use Rattle.cursors.specs.Chain.{offsetAt, endsAt, returnsAt, taken, walkOf, placeAt, recordsOf, cursorAt, Passes, Length, Circle}
+
+-- ---- lists by a rule, and places in a table
+
+pub getD-tabulate : {A : Type 0} (f : ℕ → A) (n k : ℕ) (d : A) → k < n → getD (tabulate f n) k d ≡ f k
+unfolding tabulate
+getD-tabulate f zero k d h = absurd (omega arith)
+getD-tabulate f (suc n) k d h = by (ltb k n) refl (getD-tabulate f n k d)
+  where
+    by : (b : Bool) → ltb k n ≡ b → (k < n → getD (tabulate f n) k d ≡ f k) → getD (tabulate f n ++ (f n ∷ [])) k d ≡ f k
+    by true e ih =
+        let l : k < n = ltb-true k n e in
+        List·getD-append (tabulate f n) (f n ∷ []) d k (omega (arith, length-tabulate f n)) ∙ ih l
+    by false e ih =
+        let q : k ≡ n = omega (arith, ltb-false k n e) in
+        rw q (getD-at (tabulate f n) (f n) [] d n (length-tabulate f n))
+
+-- a place that was found is at the table's start and the offset
+pub place-is : (strict : Bool) (s : List ℕ) (table : Place) (offset size : ℕ) (p : Place) → value p ≡ placeIn strict s table offset size → p ≡ record { at = table .at + offset; len = size }
+unfolding placeIn
+place-is strict s table offset size p =
+    let P : Answer Place → Type 0 = λ a. value p ≡ a → p ≡ record { at = table .at + offset; len = size } in
+    let no : P (refused 9) = λ e. let z : _≡_ {A = ℕ} 0 1 = cc in absurd (omega arith) in
+    cond-elim P (negative offset) _ _ (λ _. no) (λ _.
+    cond-elim P (inTable strict s table (offset + size)) _ _ (λ _ e. cc) (λ _. no))
+
+-- a place that was not found is 9
+pub place-nine : (strict : Bool) (s : List ℕ) (table : Place) (offset size : ℕ) → isRefused (placeIn strict s table offset size) ≡ true → refused 9 ≡ placeIn strict s table offset size
+unfolding placeIn
+place-nine strict s table offset size =
+    let P : Answer Place → Type 0 = λ a. isRefused a ≡ true → refused 9 ≡ a in
+    cond-elim P (negative offset) _ _ (λ _ _. refl) (λ _.
+    cond-elim P (inTable strict s table (offset + size)) _ _ (λ _ e. apart e refl) (λ _ _. refl))
+
+-- ---- where a chain starts
+
+pub types-value : (s : List ℕ) (lib : TypeLib) (ti : TypeInfoEntry) (offset : ℕ) (table : Place) → value offset ≡ field typeInfoBase "datatype1" s (ti .at) (ti .len) → table ≡ referenceTable lib → value (record { table = table; next = offset }) ≡ implTypesOf s lib ti
+types-value s lib ti offset table e h =
+    ap (λ (t : Place). value (record { table = t; next = offset })) h
+    ∙ ap (map (λ (x : ℕ). record { table = referenceTable lib; next = x })) e
+
+-- ---- one step
+
+module _ (s : List ℕ) (c : ImplTypeCursor) where
+  pub step-is : (a : Answer Place) → a ≡ lent s (referenceAt s (c .table) (c .next)) → implTypeStepFrom s c a ≡ implTypeStep s c
+  unfolding implTypeStep
+  step-is a e = ap (implTypeStepFrom s c) e
+
+  pub step-record : (p : Place) (next : ℕ) → length s ≤ limit → value p ≡ referenceAt s (c .table) (c .next) → next ≡ onext s (p .at) → yielded p (record { table = c .table; next = next }) ≡ implTypeStep s c
+  step-record p next h e q =
+      ap (λ (x : ℕ). yielded p (record { table = c .table; next = x })) q
+      ∙ step-is (value p) (lent-fits s _ (value p) h e)
+
+  -- A CURSOR THAT HAS YIELDED NOTHING came back unchanged, so it yields nothing again over the same bytes
+  pub step-stays : (n : ℕ) (d : ImplTypeCursor) → ended n d ≡ implTypeStep s c → (d ≡ c) × (ended n d ≡ implTypeStep s d)
+  unfolding implTypeStep
+  step-stays n d = by (lent s (referenceAt s (c .table) (c .next))) refl
+    where
+      by : (a : Answer Place) → lent s (referenceAt s (c .table) (c .next)) ≡ a → ended n d ≡ implTypeStepFrom s c a → (d ≡ c) × (ended n d ≡ implTypeStep s d)
+      by (value p) e h = let z : _≡_ {A = ℕ} 0 1 = cc in absurd (omega arith)
+      by (refused m) e h =
+          let q : d ≡ c = cc in
+          (q, h ∙ sym (ap (implTypeStepFrom s c) e) ∙ ap (implTypeStep s) (sym q))
+
+module _ (s : List ℕ) (c : ImplTypeCursor) where
+  -- ---- the chain
+
+  pub passes-none : Passes s c 0
+  passes-none k h = absurd (omega arith)
+
+  pub passes-more : (n : ℕ) → Passes s c n → endsAt s c n ≡ false → Passes s c (suc n)
+  passes-more n p e k h = by (ltb k n) refl
+    where
+      by : (b : Bool) → ltb k n ≡ b → endsAt s c k ≡ false
+      by true f = p k (ltb-true k n f)
+      by false f = let q : k ≡ n = omega (arith, ltb-false k n f) in rw q e
+
+  -- a record lies where the chain does not end
+  pub there : (k : ℕ) → endsAt s c k ≡ false → value (placeAt s c k) ≡ referenceAt s (c .table) (offsetAt s c k)
+  unfolding endsAt
+  there k = by (referenceAt s (c .table) (offsetAt s c k)) refl
+    where
+      by : (a : Answer Place) → referenceAt s (c .table) (offsetAt s c k) ≡ a → isRefused a ≡ false → value (placeAt s c k) ≡ a
+      by (value p) e h = ap value (sym (place-is _ s (c .table) (offsetAt s c k) (sizeOf refRecord) p (sym e)))
+      by (refused n) e h = apart refl h
+
+  pub inside : (k : ℕ) → endsAt s c k ≡ false → c .table .at + offsetAt s c k + sizeOf refRecord ≤ length s
+  inside k e = found-in _ s (c .table) (offsetAt s c k) (sizeOf refRecord) (placeAt s c k) (there k e) .inside
+
+  -- more records than have room at different offsets: an offset comes twice, so the chain returns
+  comes-twice : (n : ℕ) → length s - 15 < n → Passes s c n → Twice (offsetAt s c) n
+  comes-twice n h p = twice (length s - 15) n (offsetAt s c) h (λ k l. omega (arith, inside k (p k l)))
+
+  crowded : (n : ℕ) → length s - 15 < n → Passes s c n → Circle s c
+  crowded n h p =
+      let t : Twice (offsetAt s c) n = comes-twice n h p in
+      record { i = t .i; j = t .j; before = t .before; passes = λ k l. p k (omega (arith, t .within)); same = t .same }
+
+  -- ---- a chain that returns never ends
+
+  again : (a b d : ℕ) → offsetAt s c a ≡ offsetAt s c b → offsetAt s c (a + d) ≡ offsetAt s c (b + d)
+  unfolding offsetAt
+  again a b zero e = simp add-zero e
+  again a b (suc d) e = simp add-suc (ap (λ (x : ℕ). onext s (c .table .at + x)) (again a b d e))
+
+  ends-same : (a b : ℕ) → offsetAt s c a ≡ offsetAt s c b → endsAt s c a ≡ endsAt s c b
+  unfolding endsAt
+  ends-same a b e = ap (λ (x : ℕ). isRefused (referenceAt s (c .table) x)) e
+
+  always : Circle s c → (n : ℕ) → Passes s c n
+  always r zero = passes-none
+  always r (suc n) = passes-more n (always r n) (by (ltb n (r .j)) refl (always r n))
+    where
+      by : (b : Bool) → ltb n (r .j) ≡ b → Passes s c n → endsAt s c n ≡ false
+      by true f p = r .passes n (ltb-true n (r .j) f)
+      by false f p =
+          let h : r .j ≤ n = ltb-false n (r .j) f in
+          let d : n ≡ r .j + (n - r .j) = omega arith in
+          ap (endsAt s c) d
+          ∙ ends-same (r .j + (n - r .j)) (r .i + (n - r .j)) (again (r .j) (r .i) (n - r .j) (r .same))
+          ∙ p (r .i + (n - r .j)) (omega (arith, r .before))
+
+  pub not-both : (n : ℕ) → Length s c n → Circle s c → ⊥
+  not-both n l r = apart (l .ends) (always r (suc n) n (omega arith))
+
+  -- a chain that ends has one length
+  pub unique : (m n : ℕ) → Length s c m → Length s c n → m ≡ n
+  unique m n l k = by (ltb m n) (ltb n m) refl refl
+    where
+      by : (a b : Bool) → ltb m n ≡ a → ltb n m ≡ b → m ≡ n
+      by true b f g = apart (l .ends) (k .passes m (ltb-true m n f))
+      by false true f g = apart (k .ends) (l .passes n (ltb-true n m g))
+      by false false f g = omega (arith, ltb-false m n f, ltb-false n m g)
+
+  -- at most length - 15, and 0 under 16 bytes
+  pub most : (n : ℕ) → Length s c n → n ≤ length s - 15
+  most n l = by (leb n (length s - 15)) refl
+    where
+      by : (b : Bool) → leb n (length s - 15) ≡ b → n ≤ length s - 15
+      by true e = leb-true n (length s - 15) e
+      by false e = absurd (not-both n l (crowded n (leb-false n (length s - 15) e) (l .passes)))
+
+  -- ---- where the walk stops
+
+  abbrev stops : ℕ → Bool
+  stops k = endsAt s c k || returnsAt s c k
+
+  neither : (a b : Bool) → a || b ≡ false → (a ≡ false) × (b ≡ false)
+  neither true b e = apart refl e
+  neither false true e = apart refl e
+  neither false false e = (refl, refl)
+
+  -- the records before that are there, at different offsets
+  before-stop : (k : ℕ) → k < taken s c → (endsAt s c k ≡ false) × (returnsAt s c k ≡ false)
+  unfolding taken
+  before-stop k h = neither (endsAt s c k) (returnsAt s c k) (before-first stops (length s) k h)
+
+  passes-taken : Passes s c (taken s c)
+  passes-taken k h = before-stop k h .0
+
+  returns-circle : (k : ℕ) → Passes s c k → returnsAt s c k ≡ true → Circle s c
+  unfolding returnsAt
+  returns-circle k p e =
+      let t : Some (λ i. eqb (offsetAt s c i) (offsetAt s c k)) k = some-below (λ i. eqb (offsetAt s c i) (offsetAt s c k)) k e in
+      record { i = t .i; j = k; before = t .below; passes = p; same = sym (eqb-true (offsetAt s c (t .i)) (offsetAt s c k) (t .holds)) }
+
+  different : (i k : ℕ) → returnsAt s c k ≡ false → i < k → offsetAt s c k ≡ offsetAt s c i → ⊥
+  unfolding returnsAt
+  different i k e h q =
+      apart (eq-eqb (offsetAt s c i) (offsetAt s c k) (sym q)) (none-below (λ i. eqb (offsetAt s c i) (offsetAt s c k)) k i e h)
+
+  -- as many records as the file has bytes, and one more, have no room at different offsets
+  stops-soon : endsAt s c (taken s c) ≡ false → returnsAt s c (taken s c) ≡ false → length s ≤ taken s c → ⊥
+  stops-soon f e h =
+      let t : Twice (offsetAt s c) (suc (taken s c)) = comes-twice (suc (taken s c)) (omega arith) (passes-more (taken s c) passes-taken f) in
+      different (t .i) (t .j) (by (ltb (t .j) (taken s c)) refl (t .within)) (t .before) (t .same)
+    where
+      by : (b : Bool) {j : ℕ} → ltb j (taken s c) ≡ b → j < suc (taken s c) → returnsAt s c j ≡ false
+      by true {j} d w = before-stop j (ltb-true j (taken s c) d) .1
+      by false {j} d w = let q : j ≡ taken s c = omega (arith, ltb-false j (taken s c) d) in rw q e
+
+  -- so where the chain stops and does not return, it ends
+  pub ends-taken : returnsAt s c (taken s c) ≡ false → endsAt s c (taken s c) ≡ true
+  unfolding taken
+  ends-taken e = by (endsAt s c (taken s c)) refl
+    where
+      by : (b : Bool) → endsAt s c (taken s c) ≡ b → b ≡ true
+      by true f = refl
+      by false f = at (ltb (taken s c) (length s)) refl
+        where
+          at : (b : Bool) → ltb (taken s c) (length s) ≡ b → false ≡ true
+          at true d = rw (f, e) at (at-first stops (length s) (ltb-true (taken s c) (length s) d))
+          at false d = absurd (stops-soon f e (ltb-false (taken s c) (length s) d))
+
+  -- ---- what the walk says
+
+  walk-elim : (P : Answer ℕ → Type 0) → (limit < length s → P (refused 1)) → (length s ≤ limit → (n : ℕ) → Length s c n → P (value n)) → (length s ≤ limit → Circle s c → P (refused 10)) → P (walkOf s c)
+  unfolding walkOf lent
+  walk-elim P long f g =
+      cond-elim P (ltb limit (length s)) _ _ (λ h. long (ltb-true limit (length s) h)) (λ h.
+      cond-elim P (returnsAt s c (taken s c)) _ _
+      (λ e. g (ltb-false limit (length s) h) (returns-circle (taken s c) passes-taken e))
+      (λ e. f (ltb-false limit (length s) h) (taken s c) (record { passes = passes-taken; ends = ends-taken e })))
+
+  never : {X : Type 0} {a b : Answer ℕ} → isRefused a ≡ false → isRefused b ≡ true → a ≡ b → X
+  never p q e = apart (ap isRefused e ∙ q) p
+
+  -- IT SAYS n exactly if the chain has n records
+  pub walk-took : (n : ℕ) → (value n ≡ walkOf s c) ↔ ((length s ≤ limit) × Length s c n)
+  walk-took n = (
+    walk-elim (λ a. value n ≡ a → (length s ≤ limit) × Length s c n)
+        (λ _. never refl refl)
+        (λ h m l e. let q : n ≡ m = cc in (h, rw q l))
+        (λ _ _. never refl refl),
+    λ t. walk-elim (λ a. value n ≡ a)
+        (λ h. absurd (omega (arith, t .0)))
+        (λ _ m l. ap value (unique n m (t .1) l))
+        (λ _ r. absurd (not-both n (t .1) r)),
+  )
+
+  -- and then n is at most length - 15, and 0 under 16 bytes
+  pub walk-most : (n : ℕ) → value n ≡ walkOf s c → n ≤ length s - 15
+  walk-most n e = most n (walk-took n .0 e .1)
+
+  -- IT REFUSES with 10 exactly if the chain returns to an offset already passed
+  pub walk-circle : (refused 10 ≡ walkOf s c) ↔ ((length s ≤ limit) × Circle s c)
+  walk-circle = (
+    walk-elim (λ a. refused 10 ≡ a → (length s ≤ limit) × Circle s c)
+        (λ _ e. let z : _≡_ {A = ℕ} 10 1 = cc in absurd (omega arith))
+        (λ _ m l e. never refl refl (sym e))
+        (λ h r e. (h, r)),
+    λ t. walk-elim (λ a. refused 10 ≡ a)
+        (λ h. absurd (omega (arith, t .0)))
+        (λ _ m l. absurd (not-both m l (t .1)))
+        (λ _ _. refl),
+  )
+
+  -- and with 1 exactly if the bytes are over-long
+  pub walk-long : (refused 1 ≡ walkOf s c) ↔ (limit < length s)
+  walk-long = (
+    walk-elim (λ a. refused 1 ≡ a → limit < length s)
+        (λ h e. h)
+        (λ _ m l e. never refl refl (sym e))
+        (λ _ _ e. let z : _≡_ {A = ℕ} 1 10 = cc in absurd (omega arith)),
+    λ h. walk-elim (λ a. refused 1 ≡ a)
+        (λ _. refl)
+        (λ k. absurd (omega arith))
+        (λ k. absurd (omega arith)),
+  )
+
+  -- ---- the records' places
+
+  pub record Records (l : List Place) : Type 0 where
+    pub n : ℕ
+    pub walked : value n ≡ walkOf s c
+    pub are : l ≡ tabulate (placeAt s c) n
+
+  pub records : (l : List Place) → value l ≡ recordsOf s c → Records l
+  unfolding recordsOf
+  records l = by (walkOf s c) refl
+    where
+      by : (a : Answer ℕ) → walkOf s c ≡ a → value l ≡ map (tabulate (placeAt s c)) a → Records l
+      by (value n) h e = record { n = n; walked = sym h; are = cc }
+      by (refused n) h e = let z : _≡_ {A = ℕ} 0 1 = cc in absurd (omega arith)
+
+  -- they are as many as the walk says
+  pub records-length : (l : List Place) → value l ≡ recordsOf s c → value (length l) ≡ walkOf s c
+  records-length l e =
+      let t = records l e in
+      ap value (ap length (t .are) ∙ length-tabulate (placeAt s c) (t .n)) ∙ t .walked
+
+  -- and the k-th is that of the record at the k-th offset
+  pub records-place : (l : List Place) (k : ℕ) (d : Place) → value l ≡ recordsOf s c → k < length l → value (getD l k d) ≡ referenceAt s (c .table) (offsetAt s c k)
+  records-place l k d e h =
+      let t = records l e in
+      let q : k < t .n = omega (arith, ap length (t .are), length-tabulate (placeAt s c) (t .n)) in
+      ap (λ (x : List Place). value (getD x k d)) (t .are)
+      ∙ ap value (getD-tabulate (placeAt s c) (t .n) k d q)
+      ∙ there k (walk-took (t .n) .0 (t .walked) .1 .passes k q)
+
+  -- ---- a cursor on the chain goes from its k-th offset to the next, and stays at its end
+
+  pub step-along : (k : ℕ) → length s ≤ limit → endsAt s c k ≡ false → yielded (placeAt s c k) (cursorAt s c (suc k)) ≡ implTypeStep s (cursorAt s c k)
+  unfolding offsetAt
+  step-along k h e = step-record s (cursorAt s c k) (placeAt s c k) (offsetAt s c (suc k)) h (there k e) refl
+
+  pub step-ends : (k : ℕ) → length s ≤ limit → endsAt s c k ≡ true → ended 9 (cursorAt s c k) ≡ implTypeStep s (cursorAt s c k)
+  unfolding endsAt
+  step-ends k h e =
+      step-is s (cursorAt s c k) (refused 9) (lent-fits s _ (refused 9) h (place-nine _ s (c .table) (offsetAt s c k) (sizeOf refRecord) e))
+
+  -- ---- how the counting walk goes: n records are passed, and x is the next offset
+
+  pub record Stands (n x : ℕ) : Type 0 where
+    pub passes : Passes s c n
+    pub at : x ≡ offsetAt s c n
+
+  pub stands : Stands 0 (c .next)
+  unfolding offsetAt
+  stands = record { passes = passes-none; at = refl }
+
+  module _ (n x : ℕ) (h : Stands n x) where
+    stands-there : (p : Place) → value p ≡ referenceAt s (c .table) x → endsAt s c n ≡ false
+    unfolding endsAt
+    stands-there p e = sym (ap isRefused (e ∙ ap (referenceAt s (c .table)) (h .at)))
+
+    pub stands-more : (p : Place) (y : ℕ) → value p ≡ referenceAt s (c .table) x → y ≡ onext s (p .at) → Stands (n + 1) y
+    unfolding offsetAt
+    stands-more p y e q =
+        let a : p .at ≡ c .table .at + offsetAt s c n = ap (λ (k : Place). k .at) (place-is _ s (c .table) x (sizeOf refRecord) p e) ∙ ap (λ (k : ℕ). c .table .at + k) (h .at) in
+        rw add-one (record { passes = passes-more n (h .passes) (stands-there p e); at = q ∙ ap (onext s) a })
+
+    -- no record is there: the chain has n
+    pub stands-last : (m : ℕ) → length s ≤ limit → refused m ≡ referenceAt s (c .table) x → value n ≡ walkOf s c
+    unfolding endsAt
+    stands-last m k e =
+        walk-took n .1 (k, record { passes = h .passes; ends = sym (ap isRefused (e ∙ ap (referenceAt s (c .table)) (h .at))) })
+
+    -- one is, and there is no room for another at an offset of its own
+    pub stands-round : (p : Place) → length s ≤ limit → value p ≡ referenceAt s (c .table) x → length s - 15 ≤ n → refused 10 ≡ walkOf s c
+    stands-round p k e m =
+        walk-circle .1 (k, crowded (suc n) (omega arith) (passes-more n (h .passes) (stands-there p e)))

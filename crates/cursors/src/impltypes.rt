@@ -1,0 +1,118 @@
+// Implemented types: the chain of reference records of a coclass, its cursor and the full walk
+// (`impl_types` of typelib.rs and `ImplTypeIter` of iterators.rs; the walk is added by document 01).
+use records::answer::Place;
+use records::answer::PlaceAnswer;
+use records::answer::U32Answer;
+use records::field;
+use records::refrecord::RefRecord;
+use records::typeinfo::TypeInfoEntry;
+use typelib::TypeLib;
+use typelib::place_in;
+ghost use mathlib.Core.Path.{_≡_};
+ghost use Prim.Native.Nat.{_+_, _≤_};
+ghost use lib.ListN.{length};
+ghost use Rattle.records.specs.Told.{toldPlace};
+ghost use Rattle.cursors.specs.Chain.{implTypesOf, referenceAt, onext, implTypeStep, walkOf};
+ghost use Rattle.cursors.specs.Chain.{toldImplTypes, toldImplTypeStep, toldWalk};
+
+const LIMIT: usize = 16_777_216;
+
+const REFERENCE_TABLE: usize = 3;
+
+// The reference table, and the offset of the next record in it, the 32-bit pattern of a signed
+// number.
+pub struct ImplTypeCursor {
+    pub table: Place,
+    pub next: u32,
+}
+
+pub enum ImplTypesAnswer {
+    Value(ImplTypeCursor),
+    Refused(u8),
+}
+
+// A record and the cursor behind it, or the number of the refusal and the cursor unchanged.
+pub enum ImplTypeStep {
+    Record(RefRecord, ImplTypeCursor),
+    Refused(u8, ImplTypeCursor),
+}
+
+// How many records the chain has, or the number of the refusal.
+pub enum WalkAnswer {
+    Took(usize),
+    Refused(u8),
+}
+
+// The cursor over the types that `ti` implements, at the first.
+pub fn impl_types(lib: TypeLib, s: &[u8], ti: TypeInfoEntry) -> ImplTypesAnswer
+    ensures { λ r. ⌜ toldImplTypes r ≡ implTypesOf (now (s .entry)) lib ti ⌝ }
+{
+    match field::field_u32(s, ti.at, ti.len, TypeInfoEntry::SIZE, 0x54) {
+        U32Answer::Value(next) => {
+            let table = lib.table(REFERENCE_TABLE);
+            ImplTypesAnswer::Value(ImplTypeCursor { table, next })
+        }
+        U32Answer::Refused(n) => ImplTypesAnswer::Refused(n),
+    }
+}
+
+impl ImplTypeCursor {
+    // The record at the cursor, and the cursor at the offset that the record names.
+    pub fn step(self, s: &[u8]) -> ImplTypeStep
+        ensures { λ r. ⌜ toldImplTypeStep r ≡ implTypeStep (now (s .entry)) self ⌝ }
+    {
+        if LIMIT < s.len() {
+            return ImplTypeStep::Refused(1, self);
+        }
+        let table = self.table;
+        match reference_at(s, table, self.next) {
+            PlaceAnswer::Value(place) => {
+                let record = RefRecord {
+                    at: place.at,
+                    len: place.len,
+                };
+                let next = next_offset(s, place.at);
+                ImplTypeStep::Record(record, ImplTypeCursor { table, next })
+            }
+            PlaceAnswer::Refused(n) => ImplTypeStep::Refused(n, self),
+        }
+    }
+
+    // How many records the chain has; 10 where it returns to an offset already passed. There is room
+    // for no more than length - 15 records at different offsets, so one more has come round.
+    pub fn walk(self, s: &[u8]) -> WalkAnswer
+        ensures { λ r. ⌜ toldWalk r ≡ walkOf (now (s .entry)) self ⌝ }
+    {
+        if LIMIT < s.len() {
+            return WalkAnswer::Refused(1);
+        }
+        let table = self.table;
+        let mut offset = self.next;
+        let mut n: usize = 0;
+        loop {
+            let PlaceAnswer::Value(place) = reference_at(s, table, offset) else {
+                return WalkAnswer::Took(n);
+            };
+            if s.len() - 15 <= n {
+                return WalkAnswer::Refused(10);
+            }
+            n += 1;
+            offset = next_offset(s, place.at);
+        }
+    }
+}
+
+// Where the record at an offset of the table lies.
+fn reference_at(s: &[u8], table: Place, offset: u32) -> PlaceAnswer
+    ensures { λ r. ⌜ toldPlace r ≡ referenceAt (now (s .entry)) table offset ⌝ }
+{
+    place_in(s, table, offset, RefRecord::SIZE, false)
+}
+
+// The offset that the record at `at` names.
+fn next_offset(s: &[u8], at: usize) -> u32
+    requires { ⌜ at + 16 ≤ length (now s) ⌝ }
+    ensures { λ r. ⌜ r ≡ onext (now (s .entry)) at ⌝ }
+{
+    util::u32_or_zero(s, at + 0x0C)
+}

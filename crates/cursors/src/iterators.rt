@@ -1,0 +1,660 @@
+// Cursors over the records of a library: iterators.rs of the source.
+//
+// A cursor goes in by value and comes back. One step replies as one `next` of the source: the record
+// and the next cursor, or a refusal and the same cursor. 9 is the end; the typeinfo cursor also goes
+// on after a refusal 6, 7 or 8.
+use records::answer;
+use records::answer::Place;
+use records::answer::PlaceAnswer;
+use records::answer::U16Answer;
+use records::answer::U32Answer;
+use records::answer::UsizeAnswer;
+use records::field;
+use records::func::FuncRecord;
+use records::guidentry::GuidEntry;
+use records::impfile::ImpFile;
+use records::impinfo::ImpInfo;
+use records::name::NameEntry;
+use records::param::ParameterInfo;
+use records::typeinfo::TypeInfoEntry;
+use records::var::VarRecord;
+use typelib::TypeInfoIndex;
+use typelib::TypeLib;
+use typelib::typeinfos::Counts;
+use typelib::typeinfos::CountsAnswer;
+use typelib::typeinfos::TypeInfoAnswer;
+ghost use mathlib.Core.Path.{_≡_};
+ghost use Prim.Native.Nat.{_+_, _-_, _^_, _≤_, _<_};
+ghost use lib.ListN.{length};
+ghost use Rattle.records.specs.Told.{toldPlace, toldUsize};
+ghost use Rattle.cursors.specs.Cursors.{recordAt, funcStep, varStep, blockWith, funcCursor, funcsOf, skip, varsFrom, varCursor, varsOf, fixedAt, guidStep, importStep, paramCursor, paramsOf, paramAt, paramStep, impFileEntry, impFileStep, guidsOf, importsOf, impFilesOf, typeinfoStep, nameEntryFrom, nameEntry, nameStep, namesOf};
+ghost use Rattle.typelib.specs.Tables.{lent, segmentOf};
+ghost use Rattle.cursors.specs.Told.{toldFuncs, toldFuncStep, toldVars, toldVarStep, toldParams, toldParamStep, toldGuidStep, toldImportStep, toldImpFileStep, toldTypeInfoStep, toldNameStep, toldNameEntry, toldBlock, toldSkip};
+
+const LIMIT: usize = 16_777_216;
+
+const NEGATIVE: u32 = 0x8000_0000;
+
+pub struct FuncCursor {
+    pub pos: usize,
+    pub end: usize,
+    pub remaining: usize,
+}
+
+pub enum FuncStep {
+    Record(FuncRecord, FuncCursor),
+    Refused(u8, FuncCursor),
+}
+
+pub enum FuncsAnswer {
+    Value(FuncCursor),
+    Refused(u8),
+}
+
+pub struct VarCursor {
+    pub pos: usize,
+    pub end: usize,
+    pub remaining: usize,
+}
+
+pub enum VarStep {
+    Record(VarRecord, VarCursor),
+    Refused(u8, VarCursor),
+}
+
+pub enum VarsAnswer {
+    Value(VarCursor),
+    Refused(u8),
+}
+
+pub struct ParamCursor {
+    pub pos: usize,
+    pub end: usize,
+    pub remaining: usize,
+}
+
+pub enum ParamStep {
+    Record(ParameterInfo, ParamCursor),
+    Refused(u8, ParamCursor),
+}
+
+pub enum ParamsAnswer {
+    Value(ParamCursor),
+    Refused(u8),
+}
+
+pub struct GuidCursor {
+    pub pos: usize,
+    pub end: usize,
+}
+
+pub enum GuidStep {
+    Record(GuidEntry, GuidCursor),
+    Refused(u8, GuidCursor),
+}
+
+pub struct ImportCursor {
+    pub pos: usize,
+    pub end: usize,
+}
+
+pub enum ImportStep {
+    Record(ImpInfo, ImportCursor),
+    Refused(u8, ImportCursor),
+}
+
+pub struct ImpFileCursor {
+    pub pos: usize,
+    pub end: usize,
+}
+
+pub enum ImpFileStep {
+    Record(ImpFile, ImpFileCursor),
+    Refused(u8, ImpFileCursor),
+}
+
+// Over the name table from `start`, whose entries are counted from there.
+pub struct NameCursor {
+    pub pos: usize,
+    pub end: usize,
+    pub start: usize,
+}
+
+pub enum NameStep {
+    Record(NameEntry, NameCursor),
+    Refused(u8, NameCursor),
+}
+
+pub enum NameEntryAnswer {
+    Value(NameEntry),
+    Refused(u8),
+}
+
+pub struct TypeInfoCursor {
+    pub index: usize,
+}
+
+pub enum TypeInfoStep {
+    Record(TypeInfoEntry, TypeInfoCursor),
+    Refused(u8, TypeInfoCursor),
+}
+
+// A place behind the function records; or none, where a size word is past the file.
+pub enum Skipped {
+    At(usize),
+    Nothing,
+}
+
+// The offset and the size of a block that has one and declares something.
+pub enum Block {
+    Some(u32, u32),
+    Nothing,
+}
+
+// The typeinfos of the library.
+pub fn typeinfos() -> TypeInfoCursor
+    ensures { λ r. ⌜ r .index ≡ 0 ⌝ }
+{
+    TypeInfoCursor { index: 0 }
+}
+
+// The function records of a typeinfo.
+pub fn funcs(s: &[u8], ti: TypeInfoEntry) -> FuncsAnswer
+    ensures { λ r. ⌜ toldFuncs r ≡ funcsOf (now (s .entry)) ti ⌝ }
+{
+    match field::field_u32(s, ti.at, ti.len, 0x64, 0x04) {
+        U32Answer::Value(memoffset) => match typelib::typeinfos::declared_counts(s, ti) {
+            CountsAnswer::Value(c) => FuncsAnswer::Value(func_cursor(s, memoffset, c.funcs)),
+            CountsAnswer::Refused(n) => FuncsAnswer::Refused(n),
+        },
+        U32Answer::Refused(n) => FuncsAnswer::Refused(n),
+    }
+}
+
+// The variable records of a typeinfo, behind its function records.
+pub fn vars(s: &[u8], ti: TypeInfoEntry) -> VarsAnswer
+    ensures { λ r. ⌜ toldVars r ≡ varsOf (now (s .entry)) ti ⌝ }
+{
+    match field::field_u32(s, ti.at, ti.len, 0x64, 0x04) {
+        U32Answer::Value(memoffset) => match typelib::typeinfos::declared_counts(s, ti) {
+            CountsAnswer::Value(c) => VarsAnswer::Value(var_cursor(s, memoffset, c)),
+            CountsAnswer::Refused(n) => VarsAnswer::Refused(n),
+        },
+        U32Answer::Refused(n) => VarsAnswer::Refused(n),
+    }
+}
+
+// The parameters of a function, at the end of its record.
+pub fn params(s: &[u8], func: FuncRecord) -> ParamsAnswer
+    ensures { λ r. ⌜ toldParams r ≡ paramsOf (now (s .entry)) func ⌝ }
+{
+    match func.as_bytes(s) {
+        PlaceAnswer::Value(place) => match func.argument_count(s) {
+            U16Answer::Value(count) => ParamsAnswer::Value(param_cursor(place, count)),
+            U16Answer::Refused(n) => ParamsAnswer::Refused(n),
+        },
+        PlaceAnswer::Refused(n) => ParamsAnswer::Refused(n),
+    }
+}
+
+// The entries of the GUID table.
+pub fn guids(lib: TypeLib) -> GuidCursor
+    ensures { λ r. ⌜ r ≡ guidsOf lib ⌝ }
+{
+    let table = lib.table(5);
+    GuidCursor {
+        pos: table.at,
+        end: table.at + table.len,
+    }
+}
+
+// The import records.
+pub fn imports(lib: TypeLib) -> ImportCursor
+    ensures { λ r. ⌜ r ≡ importsOf lib ⌝ }
+{
+    let table = lib.table(1);
+    ImportCursor {
+        pos: table.at,
+        end: table.at + table.len,
+    }
+}
+
+// The import files.
+pub fn imp_files(lib: TypeLib) -> ImpFileCursor
+    ensures { λ r. ⌜ r ≡ impFilesOf lib ⌝ }
+{
+    let table = lib.table(2);
+    ImpFileCursor {
+        pos: table.at,
+        end: table.at + table.len,
+    }
+}
+
+// The entries of the name table.
+pub fn names(lib: TypeLib) -> NameCursor
+    ensures { λ r. ⌜ r ≡ namesOf lib ⌝ }
+{
+    let table = lib.table(7);
+    NameCursor {
+        pos: table.at,
+        end: table.at + table.len,
+        start: table.at,
+    }
+}
+
+impl FuncCursor {
+    pub fn step(self, s: &[u8]) -> FuncStep
+        ensures { λ r. ⌜ toldFuncStep r ≡ funcStep (now (s .entry)) self ⌝ }
+    {
+        let pos = self.pos;
+        match record_at(s, pos, self.end, self.remaining, FuncRecord::BASE_SIZE) {
+            UsizeAnswer::Value(len) => FuncStep::Record(
+                FuncRecord { at: pos, len },
+                FuncCursor {
+                    pos: pos + len,
+                    end: self.end,
+                    remaining: self.remaining - 1,
+                },
+            ),
+            UsizeAnswer::Refused(n) => FuncStep::Refused(n, self),
+        }
+    }
+
+    // The most records that are left.
+    pub fn size_hint(self) -> usize
+        ensures { λ r. ⌜ r ≡ self .remaining ⌝ }
+    {
+        self.remaining
+    }
+}
+
+impl VarCursor {
+    pub fn step(self, s: &[u8]) -> VarStep
+        ensures { λ r. ⌜ toldVarStep r ≡ varStep (now (s .entry)) self ⌝ }
+    {
+        let pos = self.pos;
+        match record_at(s, pos, self.end, self.remaining, VarRecord::BASE_SIZE) {
+            UsizeAnswer::Value(len) => VarStep::Record(
+                VarRecord { at: pos, len },
+                VarCursor {
+                    pos: pos + len,
+                    end: self.end,
+                    remaining: self.remaining - 1,
+                },
+            ),
+            UsizeAnswer::Refused(n) => VarStep::Refused(n, self),
+        }
+    }
+
+    // The most records that are left.
+    pub fn size_hint(self) -> usize
+        ensures { λ r. ⌜ r ≡ self .remaining ⌝ }
+    {
+        self.remaining
+    }
+}
+
+impl GuidCursor {
+    pub fn step(self, s: &[u8]) -> GuidStep
+        ensures { λ r. ⌜ toldGuidStep r ≡ guidStep (now (s .entry)) self ⌝ }
+    {
+        let pos = self.pos;
+        match fixed_at(s, pos, self.end, GuidEntry::SIZE) {
+            PlaceAnswer::Value(place) => GuidStep::Record(
+                GuidEntry {
+                    at: place.at,
+                    len: place.len,
+                },
+                GuidCursor {
+                    pos: pos + GuidEntry::SIZE,
+                    end: self.end,
+                },
+            ),
+            PlaceAnswer::Refused(n) => GuidStep::Refused(n, self),
+        }
+    }
+}
+
+impl ImportCursor {
+    pub fn step(self, s: &[u8]) -> ImportStep
+        ensures { λ r. ⌜ toldImportStep r ≡ importStep (now (s .entry)) self ⌝ }
+    {
+        let pos = self.pos;
+        match fixed_at(s, pos, self.end, ImpInfo::SIZE) {
+            PlaceAnswer::Value(place) => ImportStep::Record(
+                ImpInfo {
+                    at: place.at,
+                    len: place.len,
+                },
+                ImportCursor {
+                    pos: pos + ImpInfo::SIZE,
+                    end: self.end,
+                },
+            ),
+            PlaceAnswer::Refused(n) => ImportStep::Refused(n, self),
+        }
+    }
+}
+
+impl ParamCursor {
+    pub fn step(self, s: &[u8]) -> ParamStep
+        ensures { λ r. ⌜ toldParamStep r ≡ paramStep (now (s .entry)) self ⌝ }
+    {
+        let pos = self.pos;
+        match param_at(s, self) {
+            PlaceAnswer::Value(place) => ParamStep::Record(
+                ParameterInfo {
+                    at: place.at,
+                    len: place.len,
+                },
+                ParamCursor {
+                    pos: pos + ParameterInfo::SIZE,
+                    end: self.end,
+                    remaining: self.remaining - 1,
+                },
+            ),
+            PlaceAnswer::Refused(n) => ParamStep::Refused(n, self),
+        }
+    }
+
+    // How many parameters are left.
+    pub fn size_hint(self) -> usize
+        ensures { λ r. ⌜ r ≡ self .remaining ⌝ }
+    {
+        self.remaining
+    }
+}
+
+impl ImpFileCursor {
+    pub fn step(self, s: &[u8]) -> ImpFileStep
+        ensures { λ r. ⌜ toldImpFileStep r ≡ impFileStep (now (s .entry)) self ⌝ }
+    {
+        let pos = self.pos;
+        match imp_file_entry(s, pos, self.end) {
+            PlaceAnswer::Value(place) => ImpFileStep::Record(
+                ImpFile {
+                    at: place.at,
+                    len: place.len,
+                },
+                ImpFileCursor {
+                    pos: pos + place.len,
+                    end: self.end,
+                },
+            ),
+            PlaceAnswer::Refused(n) => ImpFileStep::Refused(n, self),
+        }
+    }
+}
+
+impl NameCursor {
+    pub fn step(self, s: &[u8]) -> NameStep
+        ensures { λ r. ⌜ toldNameStep r ≡ nameStep (now (s .entry)) self ⌝ }
+    {
+        match name_entry(s, self) {
+            NameEntryAnswer::Value(entry) => {
+                let text = entry.text;
+                NameStep::Record(
+                    entry,
+                    NameCursor {
+                        pos: text.at + (text.len + 3) / 4 * 4,
+                        end: self.end,
+                        start: self.start,
+                    },
+                )
+            }
+            NameEntryAnswer::Refused(n) => NameStep::Refused(n, self),
+        }
+    }
+}
+
+impl TypeInfoCursor {
+    pub fn step(self, s: &[u8], lib: TypeLib) -> TypeInfoStep
+        ensures { λ r. ⌜ toldTypeInfoStep r ≡ typeinfoStep (now (s .entry)) lib self ⌝ }
+    {
+        let index = self.index;
+        if LIMIT < s.len() {
+            return TypeInfoStep::Refused(1, self);
+        }
+        if lib.count as usize <= index {
+            return TypeInfoStep::Refused(9, self);
+        }
+        let next = TypeInfoCursor { index: index + 1 };
+        match lib.typeinfo(s, TypeInfoIndex(index)) {
+            TypeInfoAnswer::Value(ti) => TypeInfoStep::Record(ti, next),
+            TypeInfoAnswer::Refused(n) => TypeInfoStep::Refused(n, next),
+        }
+    }
+
+    // How many typeinfos are left.
+    pub fn size_hint(self, lib: TypeLib) -> usize
+        ensures { λ r. ⌜ r ≡ lib .count - self .index ⌝ }
+    {
+        let count = lib.count as usize;
+        if count < self.index {
+            0
+        } else {
+            count - self.index
+        }
+    }
+}
+
+// The length of the record at `pos`: the one test of the records of a block.
+fn record_at(s: &[u8], pos: usize, end: usize, remaining: usize, least: usize) -> UsizeAnswer
+    ensures { λ r. ⌜ toldUsize r ≡ lent (now (s .entry)) (recordAt (now (s .entry)) pos end remaining least) ⌝ }
+{
+    if LIMIT < s.len() {
+        return UsizeAnswer::Refused(1);
+    }
+    if remaining == 0 {
+        return UsizeAnswer::Refused(9);
+    }
+    if end <= pos {
+        return UsizeAnswer::Refused(9);
+    }
+    let util::U32Read::Value(info) = util::read_u32_le(s, pos) else {
+        return UsizeAnswer::Refused(9);
+    };
+    let size = util::bits(info, 0, 16) as usize;
+    if size < least {
+        return UsizeAnswer::Refused(9);
+    }
+    let room = s.len() - pos;
+    if room < size {
+        return UsizeAnswer::Refused(9);
+    }
+    UsizeAnswer::Value(size)
+}
+
+// The record of `size` bytes at `pos`: the one test of the records of one size.
+fn fixed_at(s: &[u8], pos: usize, end: usize, size: usize) -> PlaceAnswer
+    ensures { λ r. ⌜ toldPlace r ≡ lent (now (s .entry)) (fixedAt (now (s .entry)) pos end size) ⌝ }
+{
+    if LIMIT < s.len() {
+        return PlaceAnswer::Refused(1);
+    }
+    if end < pos {
+        return PlaceAnswer::Refused(9);
+    }
+    if end - pos < size {
+        return PlaceAnswer::Refused(9);
+    }
+    if s.len() < pos {
+        return PlaceAnswer::Refused(9);
+    }
+    if s.len() - pos < size {
+        return PlaceAnswer::Refused(9);
+    }
+    PlaceAnswer::Value(Place { at: pos, len: size })
+}
+
+fn param_at(s: &[u8], cursor: ParamCursor) -> PlaceAnswer
+    ensures { λ r. ⌜ toldPlace r ≡ lent (now (s .entry)) (paramAt (now (s .entry)) cursor) ⌝ }
+{
+    if LIMIT < s.len() {
+        return PlaceAnswer::Refused(1);
+    }
+    if cursor.remaining == 0 {
+        return PlaceAnswer::Refused(9);
+    }
+    fixed_at(s, cursor.pos, cursor.end, ParameterInfo::SIZE)
+}
+
+fn imp_file_entry(s: &[u8], pos: usize, end: usize) -> PlaceAnswer
+    ensures { λ r. ⌜ toldPlace r ≡ lent (now (s .entry)) (impFileEntry (now (s .entry)) pos end) ⌝ }
+{
+    match fixed_at(s, pos, end, ImpFile::HEADER_SIZE) {
+        PlaceAnswer::Value(_) => {
+            let name = (util::u16_or_zero(s, pos + 12) / 4) as usize;
+            fixed_at(s, pos, end, (name + 14 + 3) / 4 * 4)
+        }
+        PlaceAnswer::Refused(n) => PlaceAnswer::Refused(n),
+    }
+}
+
+// The block at a memoffset, where it has one and `count` records are declared.
+fn block_with(s: &[u8], memoffset: u32, count: u16) -> Block
+    ensures { λ r. ⌜ toldBlock r ≡ blockWith (now (s .entry)) memoffset count ⌝ }
+{
+    if NEGATIVE <= memoffset {
+        return Block::Nothing;
+    }
+    if count == 0 {
+        return Block::Nothing;
+    }
+    match util::read_u32_le(s, memoffset as usize) {
+        util::U32Read::Value(size) => Block::Some(memoffset, size),
+        util::U32Read::Nothing => Block::Nothing,
+    }
+}
+
+fn func_cursor(s: &[u8], memoffset: u32, count: u16) -> FuncCursor
+    ensures { λ r. ⌜ r ≡ funcCursor count (blockWith (now (s .entry)) memoffset count) ⌝ }
+{
+    match block_with(s, memoffset, count) {
+        Block::Some(at, size) => FuncCursor {
+            pos: at as usize + 4,
+            end: at as usize + 4 + size as usize,
+            remaining: count as usize,
+        },
+        Block::Nothing => FuncCursor {
+            pos: 0,
+            end: 0,
+            remaining: 0,
+        },
+    }
+}
+
+fn var_cursor(s: &[u8], memoffset: u32, c: Counts) -> VarCursor
+    ensures { λ r. ⌜ r ≡ varCursor (now (s .entry)) c (blockWith (now (s .entry)) memoffset (c .vars)) ⌝ }
+{
+    match block_with(s, memoffset, c.vars) {
+        Block::Some(at, size) => {
+            let first = at as usize + 4;
+            vars_from(
+                skip_functions(s, first, c.funcs as usize),
+                first + size as usize,
+                c.vars,
+            )
+        }
+        Block::Nothing => VarCursor {
+            pos: 0,
+            end: 0,
+            remaining: 0,
+        },
+    }
+}
+
+fn vars_from(start: Skipped, end: usize, count: u16) -> VarCursor
+    ensures { λ r. ⌜ r ≡ varsFrom end count (toldSkip start) ⌝ }
+{
+    match start {
+        Skipped::At(pos) => VarCursor {
+            pos,
+            end,
+            remaining: count as usize,
+        },
+        Skipped::Nothing => VarCursor {
+            pos: 0,
+            end: 0,
+            remaining: 0,
+        },
+    }
+}
+
+// Past `count` function records from `start` on, by their sizes alone.
+fn skip_functions(s: &[u8], start: usize, count: usize) -> Skipped
+    ensures { λ r. ⌜ toldSkip r ≡ skip count (now (s .entry)) start ⌝ }
+{
+    let mut pos = start;
+    let mut left = count;
+    while 0 < left {
+        let util::U32Read::Value(info) = util::read_u32_le(s, pos) else {
+            return Skipped::Nothing;
+        };
+        let size = util::bits(info, 0, 16) as usize;
+        if size == 0 {
+            return Skipped::At(pos);
+        }
+        pos = pos + size;
+        left = left - 1;
+    }
+    Skipped::At(pos)
+}
+
+fn param_cursor(place: Place, count: u16) -> ParamCursor
+    requires { ⌜ place .at + place .len < 2 ^ 63 ⌝ }
+    ensures { λ r. ⌜ r ≡ paramCursor place count ⌝ }
+{
+    let size = 12 * (count as usize);
+    let len = place.len;
+    if len < size {
+        return ParamCursor {
+            pos: 0,
+            end: 0,
+            remaining: 0,
+        };
+    }
+    ParamCursor {
+        pos: place.at + (len - size),
+        end: place.at + len,
+        remaining: count as usize,
+    }
+}
+
+// The entry of the name table at the cursor.
+fn name_entry(s: &[u8], c: NameCursor) -> NameEntryAnswer
+    ensures { λ r. ⌜ toldNameEntry r ≡ lent (now (s .entry)) (nameEntry (now (s .entry)) c) ⌝ }
+{
+    let pos = c.pos;
+    if LIMIT < s.len() {
+        return NameEntryAnswer::Refused(1);
+    }
+    if pos < c.start {
+        return NameEntryAnswer::Refused(9);
+    }
+    match fixed_at(s, pos, c.end, 12) {
+        PlaceAnswer::Value(_) => {
+            let len = util::u8_or_zero(s, pos + 8) as usize;
+            match answer::text(s, field::record_place(s, pos + 12, len, 0)) {
+                PlaceAnswer::Value(text) => NameEntryAnswer::Value(name_entry_from(s, c, text)),
+                PlaceAnswer::Refused(n) => NameEntryAnswer::Refused(n),
+            }
+        }
+        PlaceAnswer::Refused(n) => NameEntryAnswer::Refused(n),
+    }
+}
+
+fn name_entry_from(s: &[u8], c: NameCursor, text: Place) -> NameEntry
+    requires { ⌜ (c .pos + 12 ≤ length (now s)) × (c .start ≤ c .pos) ⌝ }
+    ensures { λ r. ⌜ r ≡ nameEntryFrom (now (s .entry)) c text ⌝ }
+{
+    let pos = c.pos;
+    NameEntry {
+        offset: pos - c.start,
+        text,
+        hreftype: util::signed32(util::u32_or_zero(s, pos)),
+        next_hash: util::signed32(util::u32_or_zero(s, pos + 4)),
+        flags: util::u8_or_zero(s, pos + 9),
+        hashcode: util::u16_or_zero(s, pos + 10),
+    }
+}

@@ -1,0 +1,64 @@
+-- The worked cases of document 01 that are to be proved, as rows of one list.
+use mathlib.Core.Path.{_≡_, refl}
+use mathlib.Core.List.{List, [], _∷_, map}
+use Prim.Native.Nat.{ℕ, _-_}
+use lib.IntN.{pos, negsuc}
+use lib.ListN.{replicate, set, take}
+use Rattle.util.specs.Read.{le}
+use Rattle.records.specs.declared.types.ConstValue.{ConstValue}
+use Rattle.records.specs.declared.types.ConstValue.the-variants as const
+use Rattle.records.specs.Answer.{Answer, value, refused}
+use Rattle.typelib.specs.Header.{parseOf, parsed, libraryOf}
+use Rattle.typelib.specs.Tables.{lent}
+use Rattle.typelib.specs.References.{Resolved, internal, internalIndex, resolvedAt, hrefResolved}
+use Rattle.constants.specs.Constants.{constantOf, inlineCode, constAt}
+
+-- what a case is about: the number that `parse` replies, what `const_value` answers, what `resolve_hreftype_full` answers
+pub data Reply : Type 0 where
+  parse : ℕ → Reply
+  constant : Answer ConstValue → Reply
+  reference : Answer Resolved → Reply
+
+-- what the definitions give, and what document 01 says
+infix 20 _gives_
+pub record Row : Type 0 where
+  pub defined : Reply
+  pub said : Reply
+
+abbrev pub _gives_ : Reply → Reply → Row
+d gives e = record { defined = d; said = e }
+
+-- n bytes, zero but for the magic
+abbrev pub library : ℕ → List ℕ
+library n = take n (0x4d ∷ 0x53 ∷ 0x46 ∷ 0x54 ∷ replicate (n - 4) 0)
+
+abbrev pub parsing : List ℕ → Reply
+parsing s = parse (parsed (parseOf s) .number)
+
+-- over the smallest library, and one like it of two types
+abbrev pub inlined : ℕ → Reply
+inlined word = constant (constAt (library 324) (libraryOf (library 324)) word)
+
+abbrev pub referred : ℕ → Reply
+referred href = reference (hrefResolved (library 324) (record { segments = []; count = 2; table = 84 }) href)
+
+abbrev pub rows : List Row
+rows =
+    (parsing (library 83) gives parse 2)
+    ∷ (parsing (library 84) gives parse 5)
+    ∷ (parsing (library 324) gives parse 0)
+    ∷ (parsing (library 323) gives parse 5)
+    ∷ (parsing (set (set (set (set (library 324) 32 255) 33 255) 34 255) 35 255) gives parse 4)
+    ∷ (inlined 0x80000000 gives constant (value const.Empty))
+    ∷ (inlined 0x8800ffff gives constant (value (const.I2 (negsuc 0))))
+    ∷ (inlined 0x8c00ffff gives constant (value (const.I4 (pos 65535))))
+    ∷ (inlined 0xc00000ff gives constant (value (const.I1 (negsuc 0))))
+    ∷ (inlined 0xffffffff gives constant (value (const.I4 (pos 67108863))))
+    ∷ (referred 4 gives reference (value (internal 0)))
+    ∷ (referred 100 gives reference (value (internal 1)))
+    ∷ (referred 200 gives reference (refused 9))
+    ∷ []
+
+pub edges : map (λ (r : Row). r .defined) rows ≡ map (λ (r : Row). r .said) rows
+unfolding le parseOf lent constantOf inlineCode internalIndex resolvedAt
+edges = refl
