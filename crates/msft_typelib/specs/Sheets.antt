@@ -10,8 +10,8 @@ use Rattle.records.specs.Answer.{Answer, value, refused, map}
 use Rattle.description.specs.Sheet.{edition-one}
 use Rattle.describe.specs.Call.{Call, sheetOf, written}
 use Rattle.describe.specs.Demand3.{success}
-use Rattle.msft_typelib.specs.Call.{reply, Outcome, outcome}
-use Rattle.msft_typelib.specs.Written.{below}
+use Rattle.replies.specs.Call.{reply, Outcome, outcome}
+use Rattle.replies.specs.Written.{below}
 
 -- how many bytes the sheet has, or minus the number of the refusal; and the output with the sheet at its front, or as it was
 unfoldable pub sheeted : List ℕ → List ℕ → Outcome

@@ -1,9 +1,9 @@
 // A C array's descriptor, by its place.
-use crate::reply;
-use crate::rows;
 use records::arraydesc::ArrayDesc;
-ghost use Rattle.msft_typelib.specs.Call.{bits32, laid, outcome, past, reply};
-ghost use Rattle.msft_typelib.specs.Values.{bound, size};
+use replies::reply;
+use replies::rows;
+ghost use Rattle.replies.specs.Call.{bits32, laid, outcome, past, reply};
+ghost use Rattle.replies.specs.Values.{bound, size};
 ghost use Rattle.records.specs.Answer.{map};
 ghost use Rattle.records.specs.Counted.{arrayDescSize, boundOf};
 ghost use Rattle.records.specs.Layout.{arrayDesc};

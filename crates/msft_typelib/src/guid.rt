@@ -1,9 +1,9 @@
 // A GUID, by its place.
-use crate::reply;
-use crate::rows;
 use records::guid::Guid;
-ghost use Rattle.msft_typelib.specs.Call.{laid, outcome, past, reply};
-ghost use Rattle.msft_typelib.specs.Values.{place};
+use replies::reply;
+use replies::rows;
+ghost use Rattle.replies.specs.Call.{laid, outcome, past, reply};
+ghost use Rattle.replies.specs.Values.{place};
 ghost use Rattle.records.specs.Answer.{map};
 ghost use Rattle.records.specs.Guid.{guidText};
 ghost use Rattle.records.specs.Layout.{guid, sizeOf};

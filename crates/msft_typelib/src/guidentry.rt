@@ -1,9 +1,9 @@
 // An entry of the GUID table, by its place.
-use crate::reply;
-use crate::rows;
 use records::guidentry::GuidEntry;
-ghost use Rattle.msft_typelib.specs.Call.{bits32, laid, outcome, past, reply};
-ghost use Rattle.msft_typelib.specs.Values.{place};
+use replies::reply;
+use replies::rows;
+ghost use Rattle.replies.specs.Call.{bits32, laid, outcome, past, reply};
+ghost use Rattle.replies.specs.Values.{place};
 ghost use Rattle.records.specs.Answer.{map};
 ghost use Rattle.records.specs.Layout.{guidEntry};
 ghost use Rattle.records.specs.Record.{field, placeOf, signed32};

@@ -1,8 +1,8 @@
 // The library's header.
-use crate::reply;
 use records::answer::U32Answer;
+use replies::reply;
 use typelib::TypeLib;
-ghost use Rattle.msft_typelib.specs.Call.{bits32, libraryIn, past, reply, truth};
+ghost use Rattle.replies.specs.Call.{bits32, libraryIn, past, reply, truth};
 ghost use Rattle.records.specs.Answer.{map, value};
 ghost use Rattle.records.specs.Record.{bitsOf, flagSet, signed32};
 ghost use Rattle.typelib.specs.Header.{headerField, helpDllFlag};

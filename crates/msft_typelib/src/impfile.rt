@@ -1,9 +1,9 @@
 // An import file, by its place.
-use crate::reply;
-use crate::rows;
 use records::impfile::ImpFile;
-ghost use Rattle.msft_typelib.specs.Call.{bits32, laid, outcome, past, reply};
-ghost use Rattle.msft_typelib.specs.Values.{place, size};
+use replies::reply;
+use replies::rows;
+ghost use Rattle.replies.specs.Call.{bits32, laid, outcome, past, reply};
+ghost use Rattle.replies.specs.Values.{place, size};
 ghost use Rattle.records.specs.Answer.{map};
 ghost use Rattle.records.specs.Counted.{fileName, fileNameBytes, impFileSize};
 ghost use Rattle.records.specs.Layout.{impFile};

@@ -1,7 +1,7 @@
 // An import record, by its place.
-use crate::reply;
 use records::impinfo::ImpInfo;
-ghost use Rattle.msft_typelib.specs.Call.{bits32, past, reply};
+use replies::reply;
+ghost use Rattle.replies.specs.Call.{bits32, past, reply};
 ghost use Rattle.records.specs.Layout.{impInfo};
 ghost use Rattle.records.specs.Record.{field, signed32};
 ghost use mathlib.Core.Path.{_≡_};

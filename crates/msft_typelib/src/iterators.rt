@@ -1,6 +1,4 @@
 // Cursors: each goes in as its numbers, and comes back as bytes.
-use crate::reply;
-use crate::rows;
 use cursors::impltypes;
 use cursors::impltypes::ImplTypeCursor;
 use cursors::iterators;
@@ -16,10 +14,12 @@ use records::answer::Place;
 use records::answer::UsizeAnswer;
 use records::func::FuncRecord;
 use records::typeinfo::TypeInfoEntry;
+use replies::reply;
+use replies::rows;
 use typelib::TypeLib;
-ghost use Rattle.msft_typelib.specs.At.{chainAt, funcAt, funcsAt, guidsAt, impFilesAt, importsAt, namesAt, paramsAt, typeinfoAt, typeinfosAt, varsAt};
-ghost use Rattle.msft_typelib.specs.Call.{laid, libraryIn, outcome, past};
-ghost use Rattle.msft_typelib.specs.Values.{chainCursor, chainStep, cursor, entryStep, funcNumbers, guidNumbers, impFileNumbers, importNumbers, nameNumbers, paramNumbers, size, step, typeinfoNumbers, varNumbers};
+ghost use Rattle.replies.specs.At.{chainAt, funcAt, funcsAt, guidsAt, impFilesAt, importsAt, namesAt, paramsAt, typeinfoAt, typeinfosAt, varsAt};
+ghost use Rattle.replies.specs.Call.{laid, libraryIn, outcome, past};
+ghost use Rattle.replies.specs.Values.{chainCursor, chainStep, cursor, entryStep, funcNumbers, guidNumbers, impFileNumbers, importNumbers, nameNumbers, paramNumbers, size, step, typeinfoNumbers, varNumbers};
 ghost use Rattle.records.specs.Answer.{map, value};
 ghost use Rattle.cursors.specs.Chain.{implTypeStep, implTypesOf, walkOf};
 ghost use Rattle.cursors.specs.Cursors.{funcStep, funcsOf, guidStep, guidsOf, impFileStep, impFilesOf, importStep, importsOf, nameStep, namesOf, paramStep, paramsOf, typeinfoStep, varStep, varsOf};

@@ -1,7 +1,7 @@
 // A function's parameter, by its place.
-use crate::reply;
 use records::param::ParameterInfo;
-ghost use Rattle.msft_typelib.specs.Call.{bits32, past, reply, truth};
+use replies::reply;
+ghost use Rattle.replies.specs.Call.{bits32, past, reply, truth};
 ghost use Rattle.records.specs.Answer.{map};
 ghost use Rattle.records.specs.Automation.{PARAMFLAG-FIN, PARAMFLAG-FOPT, PARAMFLAG-FOUT, PARAMFLAG-FRETVAL};
 ghost use Rattle.records.specs.Layout.{parameterInfo};

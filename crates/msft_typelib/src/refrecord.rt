@@ -1,7 +1,7 @@
 // A record of a chain of implemented types, by its place.
-use crate::reply;
 use records::refrecord::RefRecord;
-ghost use Rattle.msft_typelib.specs.Call.{bits32, past, reply, truth};
+use replies::reply;
+ghost use Rattle.replies.specs.Call.{bits32, past, reply, truth};
 ghost use Rattle.records.specs.Answer.{map};
 ghost use Rattle.records.specs.Automation.{IMPLTYPEFLAG-FDEFAULT, IMPLTYPEFLAG-FRESTRICTED, IMPLTYPEFLAG-FSOURCE};
 ghost use Rattle.records.specs.Layout.{refRecord};

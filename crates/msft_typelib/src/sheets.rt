@@ -1,7 +1,7 @@
 // The sheet of a library.
-use crate::reply;
+use replies::reply;
 ghost use mathlib.Core.Path.{_≡_};
-ghost use Rattle.msft_typelib.specs.Call.{outcome};
+ghost use Rattle.replies.specs.Call.{outcome};
 ghost use Rattle.msft_typelib.specs.Sheets.{sheeted};
 
 // Writes the library's sheet to the front of the output and replies how many bytes it has; or replies

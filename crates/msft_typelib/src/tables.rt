@@ -1,9 +1,9 @@
 // Segments, names, strings and GUIDs, by their offsets.
-use crate::reply;
-use crate::rows;
+use replies::reply;
+use replies::rows;
 use typelib::TypeLib;
-ghost use Rattle.msft_typelib.specs.Call.{laid, libraryIn, outcome, past};
-ghost use Rattle.msft_typelib.specs.Values.{place};
+ghost use Rattle.replies.specs.Call.{laid, libraryIn, outcome, past};
+ghost use Rattle.replies.specs.Values.{place};
 ghost use Rattle.records.specs.Answer.{map};
 ghost use Rattle.typelib.specs.Names.{guidPlace, libGuid, libHelpstring, libName, nameBytes, nameText, segmentBytes, stringText};
 ghost use Rattle.typelib.specs.Tables.{segmentOf};

@@ -1,9 +1,9 @@
 // A typeinfo, by its place.
-use crate::reply;
-use crate::rows;
 use records::typeinfo::TypeInfoEntry;
-ghost use Rattle.msft_typelib.specs.Call.{bits16, bits32, kindNumber, laid, outcome, past, reply};
-ghost use Rattle.msft_typelib.specs.Values.{place};
+use replies::reply;
+use replies::rows;
+ghost use Rattle.replies.specs.Call.{bits16, bits32, kindNumber, laid, outcome, past, reply};
+ghost use Rattle.replies.specs.Values.{place};
 ghost use Rattle.records.specs.Answer.{map};
 ghost use Rattle.records.specs.Layout.{sizeOf, typeInfoBase};
 ghost use Rattle.records.specs.Record.{bitsOf, field, recordPlace, signed16, signed32};

@@ -1,11 +1,11 @@
 // Kinds of types and the names of codes. These take no library.
-use crate::reply;
 use records::types;
 use records::types::TypeKind;
+use replies::reply;
 ghost use mathlib.Core.Path.{_≡_};
 ghost use Rattle.records.specs.Answer.{value};
 ghost use Rattle.records.specs.Types.{kindOf, kindWord, vtName};
-ghost use Rattle.msft_typelib.specs.Call.{kindNumber, laid, outcome, reply};
+ghost use Rattle.replies.specs.Call.{kindNumber, laid, outcome, reply};
 
 // The kind that a number stands for, by its number: 0 to 7, or one that TYPEKIND has not.
 #[no_mangle]

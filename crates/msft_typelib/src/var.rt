@@ -1,9 +1,9 @@
 // The record of a variable, by its place.
-use crate::reply;
-use crate::rows;
 use records::var::VarRecord;
-ghost use Rattle.msft_typelib.specs.Call.{bits16, bits32, laid, outcome, past, reply};
-ghost use Rattle.msft_typelib.specs.Values.{place, size};
+use replies::reply;
+use replies::rows;
+ghost use Rattle.replies.specs.Call.{bits16, bits32, laid, outcome, past, reply};
+ghost use Rattle.replies.specs.Values.{place, size};
 ghost use Rattle.records.specs.Answer.{map};
 ghost use Rattle.records.specs.Attributes.{varAttribute};
 ghost use Rattle.records.specs.Layout.{sizeOf, varRecord};

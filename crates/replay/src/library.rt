@@ -1,7 +1,7 @@
 // The readings of a library and its sheet, by their numbers: names.rt has their names.
 use crate::bytes;
 use crate::compare::same;
-use crate::cursors;
+use crate::cursor;
 use crate::entry::Item;
 use crate::header;
 use crate::kinds;
@@ -47,5 +47,5 @@ pub(crate) fn replay(lent: &[u8], recorded: &[u8], item: Item, before: Progress)
     if reading < 53 {
         return members::replay(lent, lib, recorded, reading, item, before);
     }
-    cursors::replay(lent, lib, recorded, reading, item, before)
+    cursor::replay(lent, lib, recorded, reading, item, before)
 }

@@ -6,8 +6,8 @@
 // them, and its file.rs describes them.
 mod bytes;
 mod compare;
-mod constants;
-mod cursors;
+mod constant;
+mod cursor;
 mod descriptors;
 mod entry;
 mod header;

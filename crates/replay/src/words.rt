@@ -2,7 +2,7 @@
 // there twice, for a signed number and for its 32-bit pattern.
 use crate::compare::same_guid;
 use crate::compare::same_place;
-use crate::constants::same_constant;
+use crate::constant::same_constant;
 use crate::descriptors::same_array;
 use crate::descriptors::same_description;
 use crate::descriptors::same_file;

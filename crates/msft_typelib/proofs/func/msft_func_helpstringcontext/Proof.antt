@@ -1,5 +1,5 @@
-use Rattle.msft_typelib.specs.Call.{bits32}
-use Rattle.msft_typelib.specs.CallLaws.{replied}
+use Rattle.replies.specs.Call.{bits32}
+use Rattle.replies.specs.CallLaws.{replied}
 use mathlib.Core.Path.{ap}
 use borrow.Author.Needs.{needs}
 use Rattle.msft_typelib.proofs.func.msft_func_helpstringcontext.Statement.{statement}

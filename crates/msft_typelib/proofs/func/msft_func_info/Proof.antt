@@ -1,4 +1,4 @@
-use Rattle.msft_typelib.specs.CallLaws.{replied}
+use Rattle.replies.specs.CallLaws.{replied}
 use borrow.Author.Needs.{needs}
 use Rattle.msft_typelib.proofs.func.msft_func_info.Statement.{statement}
 use Rattle.msft_typelib.proofs.func.msft_func_info.Tie as tie

@@ -1,4 +1,4 @@
-use Rattle.msft_typelib.specs.CallLaws.{replied}
+use Rattle.replies.specs.CallLaws.{replied}
 use borrow.Author.Needs.{needs}
 use Rattle.msft_typelib.proofs.guid.msft_guid_data1.Statement.{statement}
 use Rattle.msft_typelib.proofs.guid.msft_guid_data1.Tie as tie

@@ -1,14 +1,14 @@
 use Rattle.records.specs.Guid.{guidText}
-use Rattle.msft_typelib.specs.Written.{before, behind, written}
+use Rattle.replies.specs.Written.{before, behind, written}
 use native.Mathlib.Omega.{arith}
 use borrow.Author.Needs.{needs}
 use Rattle.msft_typelib.proofs.guid.msft_guid_text.Statement.{statement}
 use Rattle.msft_typelib.proofs.guid.msft_guid_text.Tie as tie
 use Rattle.msft_typelib.proofs.guid.msft_guid_text.Reads as reads
 use Rattle.msft_typelib.proofs.guid.msft_guid_text.Lts as lts
-use Rattle.msft_typelib.proofs.reply.minus.Reads as minus-reads
-use Rattle.msft_typelib.proofs.reply.of_written.Reads as of-written-reads
-use Rattle.msft_typelib.proofs.reply.refusal.Reads as refusal-reads
+use Rattle.replies.proofs.reply.minus.Reads as minus-reads
+use Rattle.replies.proofs.reply.of_written.Reads as of-written-reads
+use Rattle.replies.proofs.reply.refusal.Reads as refusal-reads
 use Rattle.records.proofs.guid.Guid.text.Reads as text-reads
 
 -- src/guid.rt:63:9

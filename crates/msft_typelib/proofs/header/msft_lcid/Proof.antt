@@ -1,4 +1,4 @@
-use Rattle.msft_typelib.specs.CallLaws.{number-is, replied}
+use Rattle.replies.specs.CallLaws.{number-is, replied}
 use mathlib.Core.Path.{refl}
 use borrow.Author.Needs.{needs}
 use Rattle.msft_typelib.proofs.header.msft_lcid.Statement.{statement}

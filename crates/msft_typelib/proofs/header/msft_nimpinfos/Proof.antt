@@ -1,5 +1,5 @@
-use Rattle.msft_typelib.specs.Call.{bits32}
-use Rattle.msft_typelib.specs.CallLaws.{number-is, replied}
+use Rattle.replies.specs.Call.{bits32}
+use Rattle.replies.specs.CallLaws.{number-is, replied}
 use mathlib.Core.Path.{ap, refl}
 use borrow.Author.Needs.{needs}
 use Rattle.msft_typelib.proofs.header.msft_nimpinfos.Statement.{statement}

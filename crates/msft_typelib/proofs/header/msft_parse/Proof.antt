@@ -3,8 +3,8 @@ use Rattle.msft_typelib.proofs.header.msft_parse.Statement.{statement}
 use Rattle.msft_typelib.proofs.header.msft_parse.Tie as tie
 use Rattle.msft_typelib.proofs.header.msft_parse.Reads as reads
 use Rattle.msft_typelib.proofs.header.msft_parse.Lts as lts
-use Rattle.msft_typelib.proofs.reply.of_u32.Reads as of-u32-reads
-use Rattle.msft_typelib.proofs.reply.refusal.Reads as refusal-reads
+use Rattle.replies.proofs.reply.of_u32.Reads as of-u32-reads
+use Rattle.replies.proofs.reply.refusal.Reads as refusal-reads
 
 -- src/header.rt:218:19
 refusal-requires : tie.Need-refusal-requires

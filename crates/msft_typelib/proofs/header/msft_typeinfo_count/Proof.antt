@@ -1,10 +1,10 @@
-use Rattle.msft_typelib.specs.CallLaws.{number-is, library-is}
+use Rattle.replies.specs.CallLaws.{number-is, library-is}
 use borrow.Author.Needs.{needs}
 use Rattle.msft_typelib.proofs.header.msft_typeinfo_count.Statement.{statement}
 use Rattle.msft_typelib.proofs.header.msft_typeinfo_count.Tie as tie
 use Rattle.msft_typelib.proofs.header.msft_typeinfo_count.Reads as reads
 use Rattle.msft_typelib.proofs.header.msft_typeinfo_count.Lts as lts
-use Rattle.msft_typelib.proofs.reply.of_u32.Reads as of-u32-reads
+use Rattle.replies.proofs.reply.of_u32.Reads as of-u32-reads
 use Rattle.typelib.proofs.TypeLib.parse.Reads as parse-reads
 use Rattle.typelib.proofs.TypeLib.typeinfo_count.Reads as typeinfo-count-reads
 

@@ -1,4 +1,4 @@
-use Rattle.msft_typelib.specs.CallLaws.{replied}
+use Rattle.replies.specs.CallLaws.{replied}
 use borrow.Author.Needs.{needs}
 use Rattle.msft_typelib.proofs.impfile.msft_impfile_minor_version.Statement.{statement}
 use Rattle.msft_typelib.proofs.impfile.msft_impfile_minor_version.Tie as tie

@@ -1,8 +1,8 @@
 use mathlib.Core.Path.{ap, _∙_}
 use Rattle.records.specs.Answer.{value}
-use Rattle.msft_typelib.specs.Call.{after, laid}
-use Rattle.msft_typelib.specs.Values.{cursor, nameNumbers}
-use Rattle.msft_typelib.specs.CallLaws.{library-is, number-is}
+use Rattle.replies.specs.Call.{after, laid}
+use Rattle.replies.specs.Values.{cursor, nameNumbers}
+use Rattle.replies.specs.CallLaws.{library-is, number-is}
 use borrow.Author.Needs.{needs}
 use Rattle.msft_typelib.proofs.iterators.msft_names.Statement.{statement}
 use Rattle.msft_typelib.proofs.iterators.msft_names.Tie as tie

@@ -1,11 +1,11 @@
-use Rattle.msft_typelib.specs.CallLaws.{number-is, library-is}
+use Rattle.replies.specs.CallLaws.{number-is, library-is}
 use borrow.Author.Needs.{needs}
 use Rattle.msft_typelib.proofs.iterators.msft_typeinfo_size_hint.Statement.{statement}
 use Rattle.msft_typelib.proofs.iterators.msft_typeinfo_size_hint.Tie as tie
 use Rattle.msft_typelib.proofs.iterators.msft_typeinfo_size_hint.Reads as reads
 use Rattle.msft_typelib.proofs.iterators.msft_typeinfo_size_hint.Lts as lts
-use Rattle.msft_typelib.proofs.reply.lay.Reads as lay-reads
-use Rattle.msft_typelib.proofs.rows.of_size.Reads as of-size-reads
+use Rattle.replies.proofs.reply.lay.Reads as lay-reads
+use Rattle.replies.proofs.rows.of_size.Reads as of-size-reads
 use Rattle.typelib.proofs.TypeLib.parse.Reads as parse-reads
 use Rattle.cursors.proofs.iterators.TypeInfoCursor.size_hint.Reads as size-hint-reads
 

@@ -1,11 +1,11 @@
-use Rattle.msft_typelib.specs.CallLaws.{number-is}
+use Rattle.replies.specs.CallLaws.{number-is}
 use borrow.Author.Needs.{needs}
 use Rattle.msft_typelib.proofs.iterators.msft_typeinfos.Statement.{statement}
 use Rattle.msft_typelib.proofs.iterators.msft_typeinfos.Tie as tie
 use Rattle.msft_typelib.proofs.iterators.msft_typeinfos.Reads as reads
 use Rattle.msft_typelib.proofs.iterators.msft_typeinfos.Lts as lts
-use Rattle.msft_typelib.proofs.reply.lay.Reads as lay-reads
-use Rattle.msft_typelib.proofs.rows.of_typeinfos.Reads as of-typeinfos-reads
+use Rattle.replies.proofs.reply.lay.Reads as lay-reads
+use Rattle.replies.proofs.rows.of_typeinfos.Reads as of-typeinfos-reads
 use Rattle.typelib.proofs.TypeLib.parse.Reads as parse-reads
 use Rattle.cursors.proofs.iterators.typeinfos.Reads as typeinfos-reads
 

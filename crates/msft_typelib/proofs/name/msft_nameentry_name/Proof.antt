@@ -3,9 +3,9 @@ use Rattle.msft_typelib.proofs.name.msft_nameentry_name.Statement.{stat
 use Rattle.msft_typelib.proofs.name.msft_nameentry_name.Tie as tie
 use Rattle.msft_typelib.proofs.name.msft_nameentry_name.Reads as reads
 use Rattle.msft_typelib.proofs.name.msft_nameentry_name.Lts as lts
-use Rattle.msft_typelib.proofs.reply.lay.Reads as lay-reads
-use Rattle.msft_typelib.proofs.reply.refusal.Reads as refusal-reads
-use Rattle.msft_typelib.proofs.rows.of_place.Reads as of-place-reads
+use Rattle.replies.proofs.reply.lay.Reads as lay-reads
+use Rattle.replies.proofs.reply.refusal.Reads as refusal-reads
+use Rattle.replies.proofs.rows.of_place.Reads as of-place-reads
 use Rattle.records.proofs.name.NameEntry.name.Reads as name-reads
 
 -- src/name.rt:26:16

@@ -1,5 +1,5 @@
-use Rattle.msft_typelib.specs.Call.{truth}
-use Rattle.msft_typelib.specs.CallLaws.{replied}
+use Rattle.replies.specs.Call.{truth}
+use Rattle.replies.specs.CallLaws.{replied}
 use mathlib.Core.Path.{ap}
 use borrow.Author.Needs.{needs}
 use Rattle.msft_typelib.proofs.refrecord.msft_ref_is_default.Statement.{statement}

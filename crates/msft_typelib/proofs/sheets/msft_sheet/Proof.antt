@@ -4,7 +4,7 @@ use Rattle.msft_typelib.proofs.sheets.msft_sheet.Statement.{statement}
 use Rattle.msft_typelib.proofs.sheets.msft_sheet.Tie as tie
 use Rattle.msft_typelib.proofs.sheets.msft_sheet.Reads as reads
 use Rattle.msft_typelib.proofs.sheets.msft_sheet.Lts as lts
-use Rattle.msft_typelib.proofs.reply.of_written.Reads as of-written-reads
+use Rattle.replies.proofs.reply.of_written.Reads as of-written-reads
 use Rattle.sheet.proofs.sheet.Reads as sheet-reads
 
 -- src/sheets.rt:13:23

@@ -1,5 +1,5 @@
-use Rattle.msft_typelib.specs.Call.{kindNumber}
-use Rattle.msft_typelib.specs.CallLaws.{replied}
+use Rattle.replies.specs.Call.{kindNumber}
+use Rattle.replies.specs.CallLaws.{replied}
 use Rattle.records.specs.Answer.{map}
 use mathlib.Core.Path.{ap}
 use borrow.Author.Needs.{needs}

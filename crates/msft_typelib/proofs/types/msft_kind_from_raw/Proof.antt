@@ -1,6 +1,6 @@
 use mir.ValLaws.{toZ-pos}
 use mir.Syntax.{w64}
-use Rattle.msft_typelib.specs.Call.{reply, kindNumber}
+use Rattle.replies.specs.Call.{reply, kindNumber}
 use lib.IntN.{pos}
 use native.Mathlib.Omega.{arith}
 use mathlib.Core.Path.{ap, _∙_}
@@ -9,7 +9,7 @@ use Rattle.msft_typelib.proofs.types.msft_kind_from_raw.Statement.{stat
 use Rattle.msft_typelib.proofs.types.msft_kind_from_raw.Tie as tie
 use Rattle.msft_typelib.proofs.types.msft_kind_from_raw.Reads as reads
 use Rattle.msft_typelib.proofs.types.msft_kind_from_raw.Lts as lts
-use Rattle.msft_typelib.proofs.reply.kind_number.Reads as kind-number-reads
+use Rattle.replies.proofs.reply.kind_number.Reads as kind-number-reads
 use Rattle.records.proofs.types.TypeKind.from_raw.Reads as from-raw-reads
 
 -- src/types.rt:15:24

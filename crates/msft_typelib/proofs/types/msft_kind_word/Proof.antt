@@ -1,6 +1,6 @@
-use Rattle.msft_typelib.specs.Call.{laid}
+use Rattle.replies.specs.Call.{laid}
 use mathlib.Core.Path.{_∙_}
-use Rattle.msft_typelib.specs.Written.{written}
+use Rattle.replies.specs.Written.{written}
 use Rattle.records.specs.Types.{kindWord}
 use Rattle.records.specs.Answer.{value}
 use native.Mathlib.Omega.{arith}
@@ -10,7 +10,7 @@ use Rattle.msft_typelib.proofs.types.msft_kind_word.Statement.{statemen
 use Rattle.msft_typelib.proofs.types.msft_kind_word.Tie as tie
 use Rattle.msft_typelib.proofs.types.msft_kind_word.Reads as reads
 use Rattle.msft_typelib.proofs.types.msft_kind_word.Lts as lts
-use Rattle.msft_typelib.proofs.reply.of_written.Reads as of-written-reads
+use Rattle.replies.proofs.reply.of_written.Reads as of-written-reads
 use Rattle.records.proofs.types.TypeKind.from_raw.Reads as from-raw-reads
 use Rattle.records.proofs.types.TypeKind.word.Reads as word-reads
 

@@ -1,11 +1,11 @@
-use Rattle.msft_typelib.specs.Written.{written}
+use Rattle.replies.specs.Written.{written}
 use native.Mathlib.Omega.{arith}
 use borrow.Author.Needs.{needs}
 use Rattle.msft_typelib.proofs.types.msft_vt_name.Statement.{statement}
 use Rattle.msft_typelib.proofs.types.msft_vt_name.Tie as tie
 use Rattle.msft_typelib.proofs.types.msft_vt_name.Reads as reads
 use Rattle.msft_typelib.proofs.types.msft_vt_name.Lts as lts
-use Rattle.msft_typelib.proofs.reply.of_written.Reads as of-written-reads
+use Rattle.replies.proofs.reply.of_written.Reads as of-written-reads
 use Rattle.records.proofs.types.vt_name.Reads as vt-name-reads
 
 -- src/types.rt:31:23

@@ -1,0 +1,34 @@
+use mathlib.Core.Path.{_∙_}
+use Rattle.replies.specs.Values.{chainStep}
+use Rattle.cursors.specs.Chain.{toldImplTypeStep}
+use Rattle.replies.specs.LayLaws.{shown}
+use borrow.Author.Needs.{needs}
+use Rattle.replies.proofs.rows.of_impl_type_step.Statement.{statement}
+use Rattle.replies.proofs.rows.of_impl_type_step.Tie as tie
+use Rattle.replies.proofs.rows.of_impl_type_step.Reads as reads
+use Rattle.replies.proofs.rows.of_impl_type_step.Lts as lts
+use Rattle.replies.proofs.rows.link.Reads as link-reads
+
+-- src/rows.rt:392:30
+enum-known-a : tie.Need-enum-known-a
+enum-known-a c = search needs
+
+-- src/rows.rt:392:39
+link-requires : tie.Need-link-requires
+link-requires c κs = search needs
+
+-- src/rows.rt:393:31
+enum-known-a-2 : tie.Need-enum-known-a-2
+enum-known-a-2 c = search needs
+
+-- src/rows.rt:388:1
+returns : tie.Need-returns
+returns c = c .link .ensures ∙ shown (λ a. chainStep (toldImplTypeStep a)) (c .before .before .a .given .1)
+
+-- src/rows.rt:388:1
+returns-2 : tie.Need-returns-2
+returns-2 c = shown (λ a. chainStep (toldImplTypeStep a)) (c .before .a2 .given .1)
+
+pub of-impl-type-step-spec : {M : Type 1} → statement M
+of-impl-type-step-spec =
+    tie.close (tie.spec enum-known-a link-requires enum-known-a-2 returns returns-2)

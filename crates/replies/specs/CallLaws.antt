@@ -1,0 +1,82 @@
+-- The laws of replies. Assumes nothing.
+use mathlib.Core.Path.{_≡_, refl, sym, ap, _∙_}
+use mathlib.Core.List.{List}
+use Prim.Native.Nat.{ℕ, zero, suc, _<_, _^_}
+use native.Mathlib.Omega.{arith}
+use lib.IntN.{ℤ, pos, negℤ}
+use lib.Signed.{mag}
+use mir.Syntax.{Width, w64}
+use mir.Val.{SFits, hbits, toZ, ofZ}
+use mir.ValLaws.{toZ-ofZ, toZ-pos}
+use Rattle.records.specs.Answer.{Answer, value, refused}
+use Rattle.typelib.specs.declared.Parsed.{Parsed}
+use Rattle.typelib.specs.Header.{parseOf, parsed}
+use Rattle.replies.specs.Call.{refusalOf, libraryIn, after, reply, Outcome, laid}
+
+-- ---- a reply is an i64, which the machine reads back from its bits
+
+pub minus-fits : (n : ℕ) → n < 256 → SFits w64 (negℤ (pos n))
+minus-fits zero h = record { sfits = omega arith }
+minus-fits (suc n) h = record { sfits = omega arith }
+
+pub minus-back : (n : ℕ) {z : ℤ} → n < 256 → z ≡ negℤ (pos n) → toZ w64 (ofZ w64 (toZ w64 (ofZ w64 z))) ≡ negℤ (pos n)
+minus-back n {z} h e = rw (e, toZ-ofZ w64 (negℤ (pos n)) (minus-fits n h), toZ-ofZ w64 (negℤ (pos n)) (minus-fits n h))
+
+pub pos-back : (n : ℕ) → n < 2 ^ 63 → toZ w64 (ofZ w64 (toZ w64 n)) ≡ pos n
+pos-back n h = rw (toZ-pos w64 n h) (toZ-ofZ w64 (pos n) (record { sfits = h }))
+
+-- the bits of a signed number that a call took by its bits
+pub back : (w : Width) (x : ℤ) {n : ℕ} → mag x < 2 ^ hbits w → n ≡ ofZ w (toZ w (ofZ w x)) → n ≡ ofZ w x
+back w x h e = e ∙ ap (ofZ w) (toZ-ofZ w x (record { sfits = h }))
+
+-- ---- the library
+
+pub number-is : (s : List ℕ) (p : Parsed) → p ≡ parsed (parseOf s) → refusalOf s ≡ p .number
+unfolding refusalOf
+number-is s p e = sym (ap (λ p. p .number) e)
+
+pub library-is : (s : List ℕ) (p : Parsed) → p ≡ parsed (parseOf s) → libraryIn s ≡ p .lib
+unfolding libraryIn
+library-is s p e = sym (ap (λ p. p .lib) e)
+
+-- ---- what was refused before
+
+pub after-none : {A : Type 0} (n : ℕ) (a : Answer A) → n ≡ 0 → a ≡ after n a
+unfolding after
+after-none zero a e = refl
+after-none (suc n) a e = absurd (omega arith)
+
+pub after-some : {A : Type 0} (n : ℕ) (a : Answer A) → (n ≡ 0 → ⊥) → refused n ≡ after n a
+unfolding after
+after-some zero a h = absurd (h refl)
+after-some (suc n) a h = refl
+
+-- ---- a number that is replied, by what `told` tells of an answer
+
+module _ {E : Type 0} (told : E → Answer ℕ) (number : ℕ) (a : E) where
+  -- refused before
+  pub early : {z : ℤ} → number < 256 → (number ≡ 0 → ⊥) → z ≡ negℤ (pos number)
+      → toZ w64 (ofZ w64 (toZ w64 (ofZ w64 z))) ≡ reply (after number (told a))
+  unfolding reply
+  early h n e = minus-back number h e ∙ ap reply (after-some number (told a) n)
+
+  -- a value
+  pub valued : {e : E} {n : ℕ} → n < 2 ^ 63 → number ≡ 0 → a ≡ e → value n ≡ told e
+      → toZ w64 (ofZ w64 (toZ w64 n)) ≡ reply (after number (told a))
+  unfolding reply
+  valued {e} {n} h z g k = pos-back n h ∙ ap reply (k ∙ ap told (sym g) ∙ after-none number (told a) z)
+
+  -- a refusal
+  pub declined : {e : E} {n : ℕ} {z : ℤ} → n < 256 → number ≡ 0 → a ≡ e → refused n ≡ told e → z ≡ negℤ (pos n)
+      → toZ w64 (ofZ w64 (toZ w64 (ofZ w64 z))) ≡ reply (after number (told a))
+  unfolding reply
+  declined {e} {n} h z g k m = minus-back n h m ∙ ap reply (k ∙ ap told (sym g) ∙ after-none number (told a) z)
+
+-- ---- an export: what it calls replies or lays out, by the definitions that are cited
+
+pub replied : {n m : ℕ} {x y : Answer ℕ} {z : ℤ} → z ≡ reply (after n x) → n ≡ m → x ≡ y → z ≡ reply (after m y)
+replied {n} {m} {x} {y} e f g = e ∙ ap (λ (k : ℕ). reply (after k x)) f ∙ ap (λ (a : Answer ℕ). reply (after m a)) g
+
+pub laid-as : (o : List ℕ) {n m : ℕ} {x y : Answer (List ℕ)} {w : Outcome} → w ≡ laid (after n x) o → n ≡ m → x ≡ y → w ≡ laid (after m y) o
+laid-as o {n} {m} {x} {y} e f g =
+    e ∙ ap (λ (k : ℕ). laid (after k x) o) f ∙ ap (λ (a : Answer (List ℕ)). laid (after m a) o) g

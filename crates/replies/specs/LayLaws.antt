@@ -1,0 +1,172 @@
+-- The laws of values laid into an output. Assumes nothing.
+use mathlib.Core.Path.{_≡_, refl, sym, ap, _∙_}
+use mathlib.Core.List.{List, [], _∷_, _++_, append-nil, append-assoc}
+use Prim.Native.Nat.{ℕ, zero, suc, _+_, _-_, _%_, _≤_, _<_, _^_}
+use native.Mathlib.Nat.{zero-add}
+use native.Mathlib.Omega.{arith}
+use lib.IntN.{ℤ, pos, negℤ}
+use lib.ListN.{length, drop}
+use lib.Seq.{sets, sets-eq}
+use mir.Syntax.{w32, w64}
+use mir.Val.{toZ, ofZ}
+use borrow.Author.Tests.{le-leb, lt-leb}
+use Rattle.records.specs.Answer.{Answer, value, refused, map}
+use Rattle.records.specs.Record.{limit}
+use Rattle.records.specs.Text.{fitted, fronted}
+use Rattle.records.specs.Types.{vtOf}
+use Rattle.records.specs.declared.answer.Place.{Place}
+use Rattle.records.specs.declared.name.NameEntry.{NameEntry}
+use Rattle.records.specs.declared.types.ConstValue.{ConstValue}
+use Rattle.typelib.specs.References.{external}
+use Rattle.description.specs.Format.{leBytes}
+use Rattle.description.specs.Description.{Shape, shapeOf}
+use Rattle.describe.specs.Constants.{Content, contentOf, numberIn, placeIn}
+use Rattle.emit.specs.Emit.{Put, At, Refused, past, put}
+use Rattle.emit.specs.Laws.{put-at, put-refused}
+use Rattle.emit.specs.Emit.{Emitted, moved, advance}
+use Rattle.emit.specs.Laws.{advance-within}
+use Rattle.replies.specs.Call.{after, reply, Outcome, outcome, laid}
+use Rattle.replies.specs.CallLaws.{minus-back, pos-back}
+use Rattle.replies.specs.Values.{eights, place, optPlace, span, reference, contentBytes, constant, nameEntry}
+use Rattle.replies.specs.Told.{numbersOf}
+use Rattle.replies.specs.declared.row.Longs.{Longs}
+use Rattle.replies.specs.declared.row.Longs.the-variants as longs
+
+-- what is told of a value that a match took apart
+pub shown : {E A : Type 0} (told : E → A) {r e : E} → r ≡ e → told e ≡ told r
+shown told h = ap told (sym h)
+
+-- ---- numbers in eight bytes
+
+pub eights-append : (xs ys : List ℕ) → eights xs ++ eights ys ≡ eights (xs ++ ys)
+eights-append [] ys = refl
+eights-append (x ∷ xs) ys = append-assoc (leBytes 8 x) (eights xs) (eights ys) ∙ ap (λ (l : List ℕ). leBytes 8 x ++ l) (eights-append xs ys)
+
+abbrev pub longBytes : Longs → Answer (List ℕ)
+longBytes l = value (eights (numbersOf l))
+
+pub two-longs : (a b : ℕ) → value (leBytes 8 a ++ leBytes 8 b) ≡ value (eights (a ∷ b ∷ []))
+two-longs a b = ap (λ (l : List ℕ). value (leBytes 8 a ++ l)) (sym (append-nil (leBytes 8 b)))
+
+pub one : {l : Longs} {a : ℕ} → l ≡ longs.One a → value (leBytes 8 a) ≡ longBytes l
+one {l} {a} h = ap value (sym (append-nil (leBytes 8 a))) ∙ shown longBytes h
+
+pub four : {l : Longs} {a b c d : ℕ} → l ≡ longs.Four a b c d → value (eights (a ∷ b ∷ []) ++ eights (c ∷ d ∷ [])) ≡ longBytes l
+four {l} {a} {b} {c} {d} h = ap value (eights-append (a ∷ b ∷ []) (c ∷ d ∷ [])) ∙ shown longBytes h
+
+pub five : {l : Longs} {a b c d e : ℕ} → l ≡ longs.Five a b c d e
+    → value (leBytes 8 a ++ (eights (b ∷ c ∷ []) ++ eights (d ∷ e ∷ []))) ≡ longBytes l
+five {l} {a} {b} {c} {d} {e} h =
+    ap (λ (k : List ℕ). value (leBytes 8 a ++ k)) (eights-append (b ∷ c ∷ []) (d ∷ e ∷ [])) ∙ shown longBytes h
+
+-- ---- references and constants
+
+pub import-laid : (info : Place) {x y : Answer Place} → x ≡ y → value (2 ∷ (place info ++ optPlace x)) ≡ value (reference (external info y))
+import-laid info e = ap (λ (a : Answer Place). value (2 ∷ (place info ++ optPlace a))) e
+
+module _ {h : Shape} (c : Content) where
+  pub empty-laid : h ≡ Shape.empty → value [] ≡ value (contentBytes h c)
+  empty-laid e = rw e
+
+  pub number-laid : {n w : ℕ} → h ≡ Shape.number w → n ≡ numberIn c → value (leBytes w n) ≡ value (contentBytes h c)
+  number-laid e k = rw (e, k)
+
+  pub bit-laid : {n : ℕ} → h ≡ Shape.bit → n ≡ numberIn c → value (leBytes 1 n) ≡ value (contentBytes h c)
+  bit-laid e k = rw (e, k)
+
+  pub octets-laid : {k : ℕ} (x : Answer Place) → h ≡ Shape.octets k → x ≡ placeIn c → value (span x) ≡ value (contentBytes h c)
+  octets-laid x e k = rw (e, k)
+
+  pub text-laid : (x : Answer Place) → h ≡ Shape.text → x ≡ placeIn c → value (optPlace x) ≡ value (contentBytes h c)
+  text-laid x e k = rw (e, k)
+
+pub constant-laid : (v : ConstValue) {code : ℕ} (h : Shape) (c : Content) → code ≡ vtOf v → h ≡ shapeOf code → c ≡ contentOf v
+    → value (leBytes 2 code ++ contentBytes h c) ≡ value (constant v)
+unfolding constant
+constant-laid v h c e k m = rw (k, m, e)
+
+-- ---- the entry of a name
+
+pub entry-laid : (e : NameEntry) {h k : ℕ} → h ≡ ofZ w32 (e .hreftype) → k ≡ ofZ w32 (e .«next_hash»)
+    → value (eights (e .offset ∷ e .text .at ∷ e .text .len ∷ []) ++ (leBytes 4 h ++ (leBytes 4 k ++ (leBytes 1 (e .flags) ++ leBytes 2 (e .hashcode))))) ≡ value (nameEntry e)
+entry-laid e p q = rw (p, q)
+
+-- ---- a row behind a refusal
+
+-- where a row starts
+abbrev pub startOf : ℕ → Put
+startOf zero = At 0
+startOf (suc n) = Refused (suc n)
+
+pub start-none : (n : ℕ) → n ≡ 0 → put 0 ≡ startOf n
+start-none zero h = put-at 0 (omega arith)
+start-none (suc n) h = absurd (omega arith)
+
+pub start-some : (n : ℕ) {r : Put} {o o′ : List ℕ} → (n ≡ 0 → ⊥) → Emitted (refused n) (put 0) o r o′ → r ≡ startOf n
+start-some zero h e = absurd (h refl)
+start-some (suc n) {r} h e = e .moves ∙ ap (λ (t : Put). moved t (refused (suc n))) (put-at 0 (omega arith))
+
+abbrev pub lengthOf : Answer (List ℕ) → ℕ
+lengthOf (value bs) = length bs
+lengthOf (refused n) = 0
+
+never : {A : Type 0} {n m : ℕ} → At n ≡ Refused m → A
+never e = let z : _≡_ {A = ℕ} 0 1 = cc in absurd (omega arith)
+
+-- the bytes fit, and stand at the output's front
+lay-value : (number : ℕ) (x : Answer (List ℕ)) {n : ℕ} (o : List ℕ) {r : Put} {o′ : List ℕ} → lengthOf x ≤ limit
+    → At n ≡ moved (startOf number) x → n ≤ length o → n < 2 ^ 63 → Emitted x (At 0) o r o′
+    → outcome (toZ w64 (ofZ w64 (toZ w64 n))) o′ ≡ laid (after number x) o
+unfolding after laid fitted fronted reply
+lay-value zero (value bs) {n} o {r} {o′} s e h k m =
+    let q : advance 0 (length bs) ≡ length bs = advance-within 0 (length bs) (omega arith) ∙ zero-add (length bs) in
+    let p : n ≡ advance 0 (length bs) = cc in
+    let g : n ≡ length bs = p ∙ q in
+    let f : o′ ≡ bs ++ drop (length bs) o = m .lays (omega arith) (omega arith) ∙ sets-eq bs o 0 (omega arith) ∙ ap (λ (k : ℕ). bs ++ drop k o) (zero-add (length bs)) in
+    rw (le-leb (length bs) (length o) (omega arith)) (ap (λ (z : ℤ). outcome z o′) (pos-back n k ∙ ap pos g) ∙ ap (outcome (pos (length bs))) f)
+lay-value zero (refused i) o s e h k m = never e
+lay-value (suc i) x o s e h k m = never e
+
+-- there is no room for them
+lay-short : (number : ℕ) (x : Answer (List ℕ)) {n : ℕ} (o : List ℕ) {z : ℤ} → lengthOf x ≤ limit
+    → At n ≡ moved (startOf number) x → length o < n → z ≡ negℤ (pos 12)
+    → outcome (toZ w64 (ofZ w64 (toZ w64 (ofZ w64 z)))) o ≡ laid (after number x) o
+unfolding after laid fitted fronted reply
+lay-short zero (value bs) {n} o {z} s e h k =
+    let q : advance 0 (length bs) ≡ length bs = advance-within 0 (length bs) (omega arith) ∙ zero-add (length bs) in
+    let p : n ≡ advance 0 (length bs) = cc in
+    let g : n ≡ length bs = p ∙ q in
+    rw (lt-leb (length bs) (length o) (omega arith)) (ap (λ (z : ℤ). outcome z o) (minus-back 12 (omega arith) k))
+lay-short zero (refused i) o s e h k = never e
+lay-short (suc i) x o s e h k = never e
+
+-- it was refused, by the row or before it
+lay-refused : (number : ℕ) (x : Answer (List ℕ)) (n : ℕ) (o : List ℕ) {z : ℤ} → Refused n ≡ moved (startOf number) x → n < 256
+    → z ≡ negℤ (pos n) → outcome (toZ w64 (ofZ w64 (toZ w64 (ofZ w64 z)))) o ≡ laid (after number x) o
+unfolding after laid fitted fronted reply
+lay-refused zero (value bs) n o e h k = never (sym e)
+lay-refused zero (refused i) n o e h k =
+    let q : n ≡ i = cc in
+    ap (λ (z : ℤ). outcome z o) (minus-back n h k ∙ ap (λ (m : ℕ). negℤ (pos m)) q)
+lay-refused (suc i) x n o e h k =
+    let q : n ≡ suc i = cc in
+    ap (λ (z : ℤ). outcome z o) (minus-back n h k ∙ ap (λ (m : ℕ). negℤ (pos m)) q)
+
+-- `size` is what a run over no output gave, started at `start`
+module _ (number : ℕ) (x : Answer (List ℕ)) (o : List ℕ) (size start : ℕ) {a b : List ℕ} (s : put start ≡ startOf number) (m : Emitted x (put start) a (put size) b) where
+  ran : put size ≡ moved (startOf number) x
+  ran = m .moves ∙ ap (λ (t : Put). moved t x) s
+
+  pub lay-done : {r : Put} {o′ : List ℕ} → lengthOf x ≤ limit → size ≤ past → size ≤ length o → size < 2 ^ 63 → Emitted x (put 0) o r o′
+      → outcome (toZ w64 (ofZ w64 (toZ w64 size))) o′ ≡ laid (after number x) o
+  lay-done l h k j w = lay-value number x o l (sym (put-at size h) ∙ ran) k j (rw (put-at 0 (omega arith)) at w)
+
+  pub lay-no-room : {z : ℤ} → lengthOf x ≤ limit → size ≤ past → length o < size → z ≡ negℤ (pos 12)
+      → outcome (toZ w64 (ofZ w64 (toZ w64 (ofZ w64 z)))) o ≡ laid (after number x) o
+  lay-no-room l h k e = lay-short number x o l (sym (put-at size h) ∙ ran) k e
+
+  pub lay-declined : {z : ℤ} → past < size → z ≡ negℤ (pos ((size - past - 1) % 256))
+      → outcome (toZ w64 (ofZ w64 (toZ w64 (ofZ w64 z)))) o ≡ laid (after number x) o
+  lay-declined h k =
+      let e : (size - past - 1) % 256 ≡ (size - suc past) % 256 = omega arith in
+      lay-refused number x ((size - past - 1) % 256) o (ap Refused e ∙ sym (put-refused size h) ∙ ran) (omega arith) k

@@ -1,0 +1,220 @@
+// What the exports share: the number that `parse` refuses with, the replies, and rows laid into an
+// output.
+use crate::row;
+use crate::row::Row;
+use records::answer::BoolAnswer;
+use records::answer::I16Answer;
+use records::answer::I32Answer;
+use records::answer::U8Answer;
+use records::answer::U16Answer;
+use records::answer::U32Answer;
+use records::answer::UsizeAnswer;
+use records::typeinfo::KindAnswer;
+use records::types::TypeKind;
+use typelib::TypeLib;
+use typelib::typeinfos::OffsetAnswer;
+ghost use mathlib.Core.Bool.{cond};
+ghost use mathlib.Core.Path.{_≡_};
+ghost use Prim.Native.Nat.{_^_};
+ghost use lib.IntN.{pos, negℤ};
+ghost use mir.Syntax.{w16, w64};
+ghost use mir.Val.{toZ, ofZ};
+ghost use Rattle.records.specs.Answer.{map};
+ghost use Rattle.records.specs.Told.{toldBool, toldI16, toldI32, toldKind, toldU16, toldU32, toldU8, toldUsize};
+ghost use Rattle.typelib.specs.Told.{toldOffset};
+ghost use Rattle.replies.specs.Call.{refusalOf, after, reply, bits16, bits32, truth, kindNumber, outcome, laid};
+ghost use Rattle.emit.specs.Emit.{put};
+ghost use Rattle.replies.specs.LayLaws.{startOf};
+ghost use Rattle.replies.specs.Written.{below};
+ghost use Rattle.replies.specs.Told.{toldRow};
+
+// A refusal's reply.
+pub fn minus(number: u8) -> i64
+    ensures { λ r. ⌜ r ≡ negℤ (pos number) ⌝ }
+{
+    -(number as i64)
+}
+
+// The number that `parse` refuses with, or 0.
+pub fn refusal(s: &[u8]) -> u8
+    ensures { λ r. ⌜ r ≡ refusalOf (now (s .entry)) ⌝ }
+{
+    let p = TypeLib::parse(s);
+    p.number
+}
+
+// The replies. Each is the answer behind the refusal `number`, and is stated of the bits of an i64, as
+// a caller that hands it on reads it.
+
+pub fn of_u32(number: u8, a: U32Answer) -> i64
+    ensures { λ r. ⌜ toZ w64 (ofZ w64 r) ≡ reply (after number (toldU32 a)) ⌝ }
+{
+    if number != 0 {
+        return minus(number);
+    }
+    match a {
+        U32Answer::Value(x) => x as i64,
+        U32Answer::Refused(n) => minus(n),
+    }
+}
+
+pub fn of_u16(number: u8, a: U16Answer) -> i64
+    ensures { λ r. ⌜ toZ w64 (ofZ w64 r) ≡ reply (after number (toldU16 a)) ⌝ }
+{
+    if number != 0 {
+        return minus(number);
+    }
+    match a {
+        U16Answer::Value(x) => x as i64,
+        U16Answer::Refused(n) => minus(n),
+    }
+}
+
+pub fn of_u8(number: u8, a: U8Answer) -> i64
+    ensures { λ r. ⌜ toZ w64 (ofZ w64 r) ≡ reply (after number (toldU8 a)) ⌝ }
+{
+    if number != 0 {
+        return minus(number);
+    }
+    match a {
+        U8Answer::Value(x) => x as i64,
+        U8Answer::Refused(n) => minus(n),
+    }
+}
+
+pub fn of_i32(number: u8, a: I32Answer) -> i64
+    ensures { λ r. ⌜ toZ w64 (ofZ w64 r) ≡ reply (after number (bits32 (toldI32 a))) ⌝ }
+{
+    if number != 0 {
+        return minus(number);
+    }
+    match a {
+        I32Answer::Value(x) => util::unsigned32(x) as i64,
+        I32Answer::Refused(n) => minus(n),
+    }
+}
+
+pub fn of_i16(number: u8, a: I16Answer) -> i64
+    ensures { λ r. ⌜ toZ w64 (ofZ w64 r) ≡ reply (after number (bits16 (toldI16 a))) ⌝ }
+{
+    if number != 0 {
+        return minus(number);
+    }
+    match a {
+        I16Answer::Value(x) => unsigned16(x) as i64,
+        I16Answer::Refused(n) => minus(n),
+    }
+}
+
+pub fn of_bool(number: u8, a: BoolAnswer) -> i64
+    ensures { λ r. ⌜ toZ w64 (ofZ w64 r) ≡ reply (after number (truth (toldBool a))) ⌝ }
+{
+    if number != 0 {
+        return minus(number);
+    }
+    match a {
+        BoolAnswer::Value(b) => bit(b) as i64,
+        BoolAnswer::Refused(n) => minus(n),
+    }
+}
+
+pub fn of_kind(number: u8, a: KindAnswer) -> i64
+    ensures { λ r. ⌜ toZ w64 (ofZ w64 r) ≡ reply (after number (map kindNumber (toldKind a))) ⌝ }
+{
+    if number != 0 {
+        return minus(number);
+    }
+    match a {
+        KindAnswer::Value(kind) => kind_number(kind) as i64,
+        KindAnswer::Refused(n) => minus(n),
+    }
+}
+
+pub fn of_offset(number: u8, a: OffsetAnswer) -> i64
+    ensures { λ r. ⌜ toZ w64 (ofZ w64 r) ≡ reply (after number (bits32 (toldOffset a))) ⌝ }
+{
+    if number != 0 {
+        return minus(number);
+    }
+    match a {
+        OffsetAnswer::Value(x) => util::unsigned32(x.0) as i64,
+        OffsetAnswer::Refused(n) => minus(n),
+    }
+}
+
+// The two's complement of `x`.
+fn unsigned16(x: i16) -> u16
+    ensures { λ r. ⌜ r ≡ ofZ w16 x ⌝ }
+{
+    if x < 0 {
+        0xffff - (!x as u16)
+    } else {
+        x as u16
+    }
+}
+
+fn bit(b: bool) -> u8
+    ensures { λ r. ⌜ r ≡ cond b 1 0 ⌝ }
+{
+    if b { 1 } else { 0 }
+}
+
+pub fn kind_number(kind: TypeKind) -> u8
+    ensures { λ r. ⌜ r ≡ kindNumber kind ⌝ }
+{
+    match kind {
+        TypeKind::Enum => 0,
+        TypeKind::Record => 1,
+        TypeKind::Module => 2,
+        TypeKind::Interface => 3,
+        TypeKind::Dispatch => 4,
+        TypeKind::CoClass => 5,
+        TypeKind::Alias => 6,
+        TypeKind::Union => 7,
+        TypeKind::Unknown(n) => n,
+    }
+}
+
+// How many bytes were written, or the refusal. (No output has 2^63 bytes.)
+pub fn of_written(a: UsizeAnswer) -> i64
+    ensures { λ r. ⌜ toZ w64 (ofZ w64 r) ≡ reply (map (below (2 ^ 63)) (toldUsize a)) ⌝ }
+{
+    match a {
+        UsizeAnswer::Value(n) => {
+            if n < 0x8000_0000_0000_0000 {
+                n as i64
+            } else {
+                0
+            }
+        }
+        UsizeAnswer::Refused(n) => minus(n),
+    }
+}
+
+// Where a row starts.
+fn start(number: u8) -> usize
+    ensures { λ r. ⌜ put r ≡ startOf number ⌝ }
+{
+    if number == 0 {
+        0
+    } else {
+        emit::put_refusal(0, number)
+    }
+}
+
+// Lays the row into the output, behind the refusal `number`. A first run over no output tells the
+// length or the refusal.
+pub fn lay(number: u8, row: Row, out: &mut [u8]) -> i64
+    ensures { λ r. ⌜ outcome (toZ w64 (ofZ w64 r)) (now (out .exit)) ≡ laid (after number (toldRow row)) (now (out .entry)) ⌝ }
+{
+    let mut none: [u8; 0] = [];
+    let size = row::put_row(&mut none, start(number), row);
+    if emit::PAST < size {
+        return minus(((size - emit::PAST - 1) % 256) as u8);
+    }
+    if out.len() < size {
+        return minus(12);
+    }
+    row::put_row(out, 0, row);
+    size as i64
+}
