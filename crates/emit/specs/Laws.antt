@@ -53,6 +53,15 @@ pub advance-within : (p n : ℕ) → p + n ≤ limit → advance p n ≡ p + n
 unfolding advance
 advance-within p n h = omega arith
 
+-- nor one past it; from there on it stops
+pub advance-to : (p n : ℕ) → p + n ≤ past → p + n ≡ advance p n
+unfolding advance
+advance-to p n h = omega arith
+
+pub advance-past : (p n : ℕ) → past < p + n → max p past ≡ advance p n
+unfolding advance
+advance-past p n h = omega arith
+
 -- ---- emissions
 
 -- nothing is emitted
@@ -118,19 +127,28 @@ put-moved p bs =
     (λ h. let e : max p (min (p + length bs) past) ≡ p = omega arith in rw e (put-refused p h))
 
 -- the bytes are stored at p
-pub stored : {o o′ bs : List ℕ} (p : ℕ) {n q : ℕ} → q ≡ advance p n → length bs ≡ n → o′ ≡ sets o p bs → Emitted (value bs) (put p) o (put q) o′
-stored {o} {o′} {bs} p {n} {q} f g h =
+pub stored : {o o′ bs : List ℕ} (p : ℕ) {n : ℕ} → p + n ≤ past → length bs ≡ n → o′ ≡ sets o p bs → Emitted (value bs) (put p) o (put (p + n)) o′
+stored {o} {o′} {bs} p {n} f g h =
     record {
-      moves = ap put (f ∙ ap (advance p) (sym g)) ∙ put-moved p bs;
+      moves = ap put (advance-to p n f ∙ ap (advance p) (sym g)) ∙ put-moved p bs;
       lays = put-elim (λ t. Laid t (value bs) o o′) p (λ _ k l. h) (λ _. tt);
       keeps = ap length h ∙ length-sets o p bs;
     }
 
 -- there is no room for them
-pub unstored : {o bs : List ℕ} (p : ℕ) {n q : ℕ} → q ≡ advance p n → length bs ≡ n → length o < p + n → Emitted (value bs) (put p) o (put q) o
-unstored {o} {bs} p {n} {q} f g h =
+pub unstored : {o bs : List ℕ} (p : ℕ) {n : ℕ} → p + n ≤ past → length bs ≡ n → length o < p + n → Emitted (value bs) (put p) o (put (p + n)) o
+unstored {o} {bs} p {n} f g h =
     record {
-      moves = ap put (f ∙ ap (advance p) (sym g)) ∙ put-moved p bs;
+      moves = ap put (advance-to p n f ∙ ap (advance p) (sym g)) ∙ put-moved p bs;
+      lays = put-elim (λ t. Laid t (value bs) o o) p (λ _ k l. absurd (omega (arith, g))) (λ _. tt);
+      keeps = refl;
+    }
+
+-- they would end past the limit: nothing is said of the output then
+pub stopped-past : {o bs : List ℕ} (p : ℕ) {n q : ℕ} → q ≡ max p past → length bs ≡ n → past < p + n → Emitted (value bs) (put p) o (put q) o
+stopped-past {o} {bs} p {n} {q} f g h =
+    record {
+      moves = ap put (f ∙ advance-past p n h ∙ ap (advance p) (sym g)) ∙ put-moved p bs;
       lays = put-elim (λ t. Laid t (value bs) o o) p (λ _ k l. absurd (omega (arith, g))) (λ _. tt);
       keeps = refl;
     }
@@ -195,6 +213,6 @@ copy-done l w bytes at i h e = rw (drop-none bytes i h) at e
 
 -- ---- numbers of the library
 
--- a number that would start past the end
-pub past-end : (w : ℕ) (s : List ℕ) (at : ℕ) → 0 < w → length s < at → 0 ≡ orZero (read w s at)
-past-end w s at h k = ap orZero (read-none w s at (omega arith))
+-- a number that would end past the end
+pub past-end : (w : ℕ) (s : List ℕ) (at : ℕ) → length s < at + w → 0 ≡ orZero (read w s at)
+past-end w s at h = ap orZero (read-none w s at h)

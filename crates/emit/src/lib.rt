@@ -5,42 +5,22 @@
 // empty output) and writes. A place and a refusal are one number, since an enum is slow to hand on.
 ghost use mathlib.Core.Path.{_≡_};
 ghost use mathlib.Core.List.{_∷_, []};
-ghost use Prim.Native.Nat.{_+_, _≤_};
-ghost use lib.Dec.{leb};
+ghost use Prim.Native.Nat.{_+_, _≤_, max};
 ghost use lib.ListN.{length};
 ghost use lib.Seq.{sets};
 ghost use Rattle.util.specs.Read.{read, orZero};
 ghost use Rattle.records.specs.Answer.{value, refused};
 ghost use Rattle.description.specs.Format.{leBytes};
-ghost use Rattle.emit.specs.Emit.{Emitted, put, advance};
+ghost use Rattle.emit.specs.Emit.{Emitted, put, past};
 
 // No place is past this, one more than the most bytes that a sheet has. A number past it is a refusal: 0 is the next, and so on.
 pub const PAST: usize = 16_777_217;
 
-// The place `count` bytes on.
-fn further(at: usize, count: usize) -> usize
-    ensures { λ r. ⌜ r ≡ advance at count ⌝ }
+// Where an emitter ends whose bytes would end past it.
+fn stopped(at: usize) -> usize
+    ensures { λ r. ⌜ r ≡ max at past ⌝ }
 {
-    if at >= PAST {
-        at
-    } else if count > PAST - at {
-        PAST
-    } else {
-        at + count
-    }
-}
-
-// Whether an output of `room` bytes has room for `count` bytes at `at`.
-fn has_room(room: usize, at: usize, count: usize) -> bool
-    ensures { λ r. ⌜ r ≡ leb (at + count) room ⌝ }
-{
-    if room < at {
-        return false;
-    }
-    if room - at < count {
-        return false;
-    }
-    true
+    if at < PAST { PAST } else { at }
 }
 
 // The refusal, unless there is one already.
@@ -57,11 +37,14 @@ pub fn put_refusal(to: usize, number: u8) -> usize
 pub fn put_u8(out: &mut [u8], to: usize, b: u8) -> usize
     ensures { λ r. ⌜ Emitted (value (b ∷ [])) (put to) (now (out .entry)) (put r) (now (out .exit)) ⌝ }
 {
+    if to >= PAST {
+        return to;
+    }
     if to < out.len() {
         out[to] = b;
-        further(to, 1)
+        to + 1
     } else {
-        further(to, 1)
+        to + 1
     }
 }
 
@@ -85,11 +68,17 @@ fn store_le(out: &mut [u8], at: usize, v: u64, width: usize)
 pub fn put_le(out: &mut [u8], to: usize, v: u64, width: usize) -> usize
     ensures { λ r. ⌜ Emitted (value (leBytes width v)) (put to) (now (out .entry)) (put r) (now (out .exit)) ⌝ }
 {
-    if has_room(out.len(), to, width) {
+    if PAST < width {
+        return stopped(to);
+    }
+    if PAST - width < to {
+        return stopped(to);
+    }
+    if to + width <= out.len() {
         store_le(out, to, v, width);
-        further(to, width)
+        to + width
     } else {
-        further(to, width)
+        to + width
     }
 }
 
@@ -121,44 +110,55 @@ fn store(bytes: &[u8], out: &mut [u8], at: usize)
 pub fn put_bytes(bytes: &[u8], out: &mut [u8], to: usize) -> usize
     ensures { λ r. ⌜ Emitted (value (now (bytes .entry))) (put to) (now (out .entry)) (put r) (now (out .exit)) ⌝ }
 {
-    if has_room(out.len(), to, bytes.len()) {
+    let count = bytes.len();
+    if PAST < count {
+        return stopped(to);
+    }
+    if PAST - count < to {
+        return stopped(to);
+    }
+    if to + count <= out.len() {
         store(bytes, out, to);
-        further(to, bytes.len())
+        to + count
     } else {
-        further(to, bytes.len())
+        to + count
     }
 }
 
 // The two bytes at `offset` of the record at `at`, or 0 where the library ends before them. (The sum
 // is made only where it cannot wrap.)
-pub fn half_at(s: &[u8], at: usize, offset: usize) -> u16
+pub fn half_at(s: &[u8], at: usize, offset: u32) -> u16
     ensures { λ r. ⌜ r ≡ orZero (read 2 (now (s .entry)) (at + offset)) ⌝ }
 {
-    if has_room(s.len(), at, offset) {
-        util::u16_or_zero(s, at + offset)
-    } else {
-        0
+    let len = s.len();
+    if at <= len {
+        if offset as usize + 2 <= len - at {
+            return util::u16_or_zero(s, at + offset as usize);
+        }
     }
+    0
 }
 
 // The four bytes at `offset` of the record at `at`, or 0 where the library ends before them.
-pub fn word_at(s: &[u8], at: usize, offset: usize) -> u32
+pub fn word_at(s: &[u8], at: usize, offset: u32) -> u32
     ensures { λ r. ⌜ r ≡ orZero (read 4 (now (s .entry)) (at + offset)) ⌝ }
 {
-    if has_room(s.len(), at, offset) {
-        util::u32_or_zero(s, at + offset)
-    } else {
-        0
+    let len = s.len();
+    if at <= len {
+        if offset as usize + 4 <= len - at {
+            return util::u32_or_zero(s, at + offset as usize);
+        }
     }
+    0
 }
 
-pub fn copy_u16(s: &[u8], at: usize, offset: usize, out: &mut [u8], to: usize) -> usize
+pub fn copy_u16(s: &[u8], at: usize, offset: u32, out: &mut [u8], to: usize) -> usize
     ensures { λ r. ⌜ Emitted (value (leBytes 2 (orZero (read 2 (now (s .entry)) (at + offset))))) (put to) (now (out .entry)) (put r) (now (out .exit)) ⌝ }
 {
     put_u16(out, to, half_at(s, at, offset))
 }
 
-pub fn copy_u32(s: &[u8], at: usize, offset: usize, out: &mut [u8], to: usize) -> usize
+pub fn copy_u32(s: &[u8], at: usize, offset: u32, out: &mut [u8], to: usize) -> usize
     ensures { λ r. ⌜ Emitted (value (leBytes 4 (orZero (read 4 (now (s .entry)) (at + offset))))) (put to) (now (out .entry)) (put r) (now (out .exit)) ⌝ }
 {
     put_u32(out, to, word_at(s, at, offset))

@@ -104,7 +104,7 @@ fn put_dimensions(s: &[u8], at: usize, count: u16, out: &mut [u8], to: usize) ->
     ensures { λ r. ⌜ Emitted (value (dimensionsBytes (now (s .entry)) (at + 8) count)) (put to) (now (out .entry)) (put r) (now (out .exit)) ⌝ }
 {
     let mut t = to;
-    let mut offset: usize = 8;
+    let mut offset: u32 = 8;
     let mut left = count;
     while 0 < left {
         t = emit::copy_u32(s, at, offset, out, t);
