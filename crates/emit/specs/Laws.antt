@@ -1,14 +1,14 @@
 -- The laws of emitters. Assumes nothing.
 use mathlib.Core.Path.{_≡_, refl, sym, ap, _∙_}
 use mathlib.Core.List.{List, [], _∷_, _++_, append-nil}
-use Prim.Native.Nat.{ℕ, zero, suc, _+_, _-_, _/_, _%_, _≤_, _<_, min, max}
-use native.Mathlib.Nat.{add-zero, add-suc, suc-add}
+use Prim.Native.Nat.{ℕ, zero, suc, _+_, _*_, _^_, _-_, _/_, _%_, _≤_, _<_, min, max}
+use native.Mathlib.Nat.{zero-add, add-zero, add-suc, suc-add, pow-succ', mul-assoc}
 use native.Mathlib.Omega.{arith}
 use lib.Dec.{leb}
 use borrow.Author.Tests.{le-leb, lt-leb, leb-true, leb-false}
 use lib.ListN.{length, getD, set, drop, take, length-append, length-take, drop-of-length-le}
 use native.Mathlib.Numerals.{add-one}
-use lib.Seq.{drop-cons, sets, length-sets, sets-eq, set-out, set-comm, slice, slice-cons}
+use lib.Seq.{drop-cons, sets, length-sets, sets-eq, set-out, set-set, set-comm, slice, slice-cons}
 use Rattle.util.specs.Read.{read, orZero, cond-elim, read-none}
 use Rattle.records.specs.Answer.{Answer, value, refused, map}
 use Rattle.records.specs.Record.{limit}
@@ -37,6 +37,24 @@ sets-comm [] ys l i j h = refl
 sets-comm (x ∷ xs) ys l i j h =
     sets-comm xs ys (set l i x) (suc i) j (omega arith)
     ∙ ap (λ (k : List ℕ). sets k (suc i) xs) (set-sets ys l j i x (omega arith))
+
+-- a run over another of the same length
+pub sets-over : (xs ys l : List ℕ) (i : ℕ) → length xs ≡ length ys → sets (sets l i xs) i ys ≡ sets l i ys
+sets-over [] [] l i h = refl
+sets-over [] (y ∷ ys) l i h = absurd (omega (arith, h))
+sets-over (x ∷ xs) [] l i h = absurd (omega (arith, h))
+sets-over (x ∷ xs) (y ∷ ys) l i h =
+    ap (λ (k : List ℕ). sets k (suc i) ys)
+    (sym (set-sets xs (set l i x) (suc i) i y (omega arith)) ∙ ap (λ (k : List ℕ). sets k (suc i) xs) (set-set l i x y))
+    ∙ sets-over xs ys (set l i y) (suc i) (omega (arith, h))
+
+-- the same where more was stored behind the other
+pub sets-under : (xs ys zs l : List ℕ) (i : ℕ) → length xs ≡ length ys → sets (sets l i (xs ++ zs)) i ys ≡ sets l i (ys ++ zs)
+sets-under xs ys zs l i h =
+    ap (λ (k : List ℕ). sets k i ys) (sets-append xs zs l i ∙ ap (λ (n : ℕ). sets (sets l i xs) (i + n) zs) h)
+    ∙ sym (sets-comm ys zs (sets l i xs) i (i + length ys) (omega arith))
+    ∙ ap (λ (k : List ℕ). sets k (i + length ys) zs) (sets-over xs ys l i h)
+    ∙ sym (sets-append ys zs l i)
 
 -- ---- places
 
@@ -119,6 +137,10 @@ put-elim : (P : Put → Type 0) (n : ℕ) → (n ≤ past → P (At n)) → (pas
 unfolding put
 put-elim P n f g = cond-elim P (leb n past) (At n) (Refused ((n - suc past) % 256)) (λ h. f (leb-true n past h)) (λ h. g (leb-false n past h))
 
+-- a place is no refusal
+at-place : (n : ℕ) {p : ℕ} → put n ≡ At p → n ≤ past
+at-place n {p} = put-elim (λ t. t ≡ At p → n ≤ past) n (λ h e. h) (λ h e. absurd (let z : _≡_ {A = ℕ} 0 1 = cc in omega arith))
+
 put-moved : (p : ℕ) (bs : Bytes) → put (advance p (length bs)) ≡ moved (put p) (value bs)
 unfolding advance
 put-moved p bs =
@@ -163,6 +185,36 @@ refused-now {o} {p} {n} {q} b h e =
     let m : (q - suc past) % 256 ≡ n = omega (arith, e) in
     rw (put-at p h, put-refused q k, m) (record { moves = refl; lays = tt; keeps = refl })
 
+-- Bytes of which only the length was known when y was to be emitted behind them: a stood there, and b went over it afterwards. They
+-- need to be right, as d, only where nothing was refused.
+pub patched : {a b d : Bytes} {y : Answer Bytes} {t s u : Put} {r : ℕ} {o o₁ o₂ o₃ : List ℕ} → length a ≡ length b → length b ≡ length d
+    → (r ≤ past → b ≡ d) → Emitted (value a) t o s o₁ → Emitted y s o₁ (put r) o₂ → Emitted (value b) t o₂ u o₃ → Emitted (value d ▸ y) t o (put r) o₃
+patched {a} {b} {d} {y} {t} {s} {u} {r} {o} {o₁} {o₂} {o₃} f g h e₁ e₂ e₃ =
+    let e : Emitted (value a ▸ y) t o (put r) o₂ = join e₁ e₂ in
+    record {
+      moves = e .moves ∙ moves y t;
+      lays = lays y t (e .moves) (e .lays) (e₃ .lays);
+      keeps = e₃ .keeps ∙ e .keeps;
+    }
+  where
+    moves : (y : Answer Bytes) (t : Put) → moved t (value a ▸ y) ≡ moved t (value d ▸ y)
+    moves (value c) (At p) = ap (λ n. At (advance p n)) (length-append a c ∙ ap (λ n. n + length c) (f ∙ g) ∙ sym (length-append d c))
+    moves (refused n) (At p) = refl
+    moves y (Refused m) = refl
+
+    lays : (y : Answer Bytes) (t : Put) → put r ≡ moved t (value a ▸ y) → Laid t (value a ▸ y) o o₂ → Laid t (value b) o₂ o₃ → Laid t (value d ▸ y) o o₃
+    lays (value c) (At p) m l₁ l₂ = λ k₁ k₂.
+        let n₁ : length (a ++ c) ≡ length (d ++ c) = length-append a c ∙ ap (λ n. n + length c) (f ∙ g) ∙ sym (length-append d c) in
+        let q : o₂ ≡ sets o p (a ++ c) = l₁ (omega (arith, n₁)) (omega (arith, n₁)) in
+        let n₂ : length o₂ ≡ length o = ap length q ∙ length-sets o p (a ++ c) in
+        let n₃ : length (d ++ c) ≡ length d + length c = length-append d c in
+        l₂ (omega (arith, g, n₃)) (omega (arith, g, n₂, n₃))
+        ∙ ap (λ (l : List ℕ). sets l p b) q
+        ∙ sets-under a b c o p f
+        ∙ ap (λ (l : Bytes). sets o p (l ++ c)) (h (at-place r m))
+    lays (refused n) (At p) m l₁ l₂ = tt
+    lays y (Refused n) m l₁ l₂ = tt
+
 -- ---- a loop: what the rest of it, emitted from here, makes of the whole
 
 pub record Left (whole : Answer Bytes) (t₀ : Put) (o₀ : List ℕ) (rest : Answer Bytes) (t : Put) (o : List ℕ) : Type 0 where
@@ -189,6 +241,26 @@ pub leBytes-more : (w n : ℕ) → 0 < w → leBytes w n ≡ n % 256 ∷ leBytes
 unfolding leBytes
 leBytes-more zero n h = absurd (omega arith)
 leBytes-more (suc w) n h = let e : suc w - 1 ≡ w = omega arith in rw e
+
+-- a byte and a number behind it, as one number
+pub byte-first : (w b n : ℕ) → b < 256 → value (leBytes (suc w) (b + 256 * n)) ≡ value (b ∷ leBytes w n)
+unfolding leBytes
+byte-first w b n h =
+    let e : (b + 256 * n) % 256 ≡ b = omega arith in
+    let f : (b + 256 * n) / 256 ≡ n = omega arith in
+    rw (e, f)
+
+-- two numbers, as one
+pub leBytes-join : (m n a b : ℕ) → a < 256 ^ m → leBytes (m + n) (a + 256 ^ m * b) ≡ leBytes m a ++ leBytes n b
+unfolding leBytes
+leBytes-join zero n a b h = let e : a + 256 ^ 0 * b ≡ b = omega arith in rw (zero-add, e)
+leBytes-join (suc m) n a b h =
+    let p : 256 ^ suc m * b ≡ 256 * (256 ^ m * b) = rw (pow-succ', mul-assoc) in
+    let q : 256 ^ suc m ≡ 256 * 256 ^ m = pow-succ' 256 m in
+    let e : (a + 256 ^ suc m * b) % 256 ≡ a % 256 = omega (arith, p) in
+    let f : (a + 256 ^ suc m * b) / 256 ≡ a / 256 + 256 ^ m * b = omega (arith, p) in
+    let k : a / 256 < 256 ^ m = omega (arith, q, h) in
+    rw (suc-add, e, f, leBytes-join m n (a / 256) b k)
 
 pub leBytes-none : (w n : ℕ) → w ≤ 0 → leBytes w n ≡ []
 unfolding leBytes

@@ -3,7 +3,7 @@ use mathlib.Core.Path.{_≡_, refl, sym, ap, _∙_}
 use mathlib.Core.Bool.{Bool, true, false}
 use mathlib.Core.Option.{Option, some, none}
 use mathlib.Core.List.{List, [], _∷_, _++_}
-use Prim.Native.Nat.{ℕ, _+_, _/_, _%_, _^_}
+use Prim.Native.Nat.{ℕ, _+_, _*_, _/_, _%_, _^_}
 use native.Mathlib.Omega.{arith}
 use lib.IntN.{ℤ}
 use lib.ListN.{length}
@@ -40,7 +40,7 @@ use Rattle.describe.specs.References.{guidOf, fileWith, fileOf, ownOf, importOf
 use Rattle.describe.specs.Members.{nameOf, nameBy, memidBy}
 use Rattle.emit.specs.Emit.{Put}
 use Rattle.emit.specs.Emit.{_▸_, Emitted}
-use Rattle.emit.specs.Laws.{known}
+use Rattle.emit.specs.Laws.{byte-first}
 use Rattle.sheet_trees.specs.Parts.{optPart, referenceBytes, internalBytes, ownBytes, fileBytes, importBytes}
 
 -- ---- parts that may be missing
@@ -56,10 +56,17 @@ part-name none = refl
 part-name (some bs) = refl
 
 module _ (s : List ℕ) where
-  pub part-some : (w : ℕ) {a : PlaceAnswer} {p : Place} {bs : Bytes} → a ≡ place.Value p → bs ≡ partOf s (value p)
-      → value (1 ∷ []) ▸ (value (leBytes w (length bs)) ▸ value bs) ≡ value (optPart w (found (bytesIn s (toldPlace a))))
-  unfolding optPart
-  part-some w {a} {p} {bs} e f = rw (e, f)
+  module _ {a : PlaceAnswer} {p : Place} {bs : Bytes} (e : a ≡ place.Value p) (f : bs ≡ partOf s (value p)) where
+    pub part-some : value (1 ∷ []) ▸ value bs ≡ value (optPart 0 (found (bytesIn s (toldPlace a))))
+    unfolding optPart leBytes
+    part-some = rw (e, f)
+
+    -- the byte 1 and the count are put as one number
+    pub counted-some : value (leBytes 2 (1 + 256 * (length bs % 256))) ▸ value bs ≡ value (optPart 1 (found (bytesIn s (toldPlace a))))
+    unfolding optPart leBytes
+    counted-some =
+        let n : length bs % 256 % 256 ≡ length bs % 256 = omega arith in
+        ap (λ (l : Answer Bytes). l ▸ value bs) (byte-first 1 1 (length bs % 256) (omega arith)) ∙ rw (n, e, f)
 
   pub part-none : (w : ℕ) {a : PlaceAnswer} {n : ℕ} → a ≡ place.Refused n → value (0 ∷ []) ≡ value (optPart w (found (bytesIn s (toldPlace a))))
   unfolding optPart
@@ -85,10 +92,11 @@ module _ (s : List ℕ) where
     unfolding nameBy opt
     name-missing {x} {n} e = rw e
 
+-- (the byte 1 and the identifier are put as one number)
 pub memid-is : {x : I32Answer} {z : ℤ} {n : ℕ} → x ≡ i32.Value z → n ≡ ofZ w32 z
-    → value (1 ∷ []) ▸ value (leBytes 4 n) ≡ value (encode (opt u32) (memidBy (toldI32 x)))
+    → value (leBytes 5 (1 + 256 * n)) ≡ value (encode (opt u32) (memidBy (toldI32 x)))
 unfolding memidBy opt
-memid-is {x} {z} {n} e f = rw (e, f)
+memid-is {x} {z} {n} e f = byte-first 4 1 n (omega arith) ∙ rw (e, f)
 
 pub memid-missing : {x : I32Answer} {n : ℕ} → x ≡ i32.Refused n → value (0 ∷ []) ≡ value (encode (opt u32) (memidBy (toldI32 x)))
 unfolding memidBy opt

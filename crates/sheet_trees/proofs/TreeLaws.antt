@@ -13,9 +13,12 @@ use Rattle.records.specs.declared.types.TypeDescription.{TypeDescription}
 use Rattle.records.specs.declared.types.TypeDescription.the-variants as type
 use Rattle.records.specs.Answer.{Answer, value, refused, map}
 use Rattle.records.specs.Layout.{sizeOf, arrayDesc}
+use Rattle.records.specs.Record.{limit, bitsOf}
 use Rattle.typelib.specs.declared.TypeLib.{TypeLib}
 use Rattle.typelib.specs.Tables.{lent}
+use Rattle.typelib.specs.TableLaws.{lent-long, lent-fits}
 use Rattle.typelib.specs.Descriptors.{typeDescription}
+use Rattle.typelib.specs.DescriptorLaws.{field-base}
 use Rattle.description.specs.Format.{encode, leBytes, list, joined}
 use Rattle.description.specs.Description.{Bytes, Dimension, Tree}
 use Rattle.description.specs.Description.Tree.{nothing, base, pointer, safeArray, cArray, reference}
@@ -128,3 +131,19 @@ module _ (s : List ℕ) (lib : TypeLib) where
       by-answer : (a : Answer Tree) → bytes 32 a ≡ map (encode (tree edition-one (lib .count))) a
       by-answer (value t) = refl
       by-answer (refused n) = refl
+
+  module _ (field : ℕ) where
+    headed : {a : Answer TypeDescription} → a ≡ lent s (typeDescription s lib field) → innerOf s a ≡ none
+        → value (headBytes s lib a ++ []) ≡ map (encode (tree edition-one (lib .count))) (treeOf s lib field)
+    headed {a} e f = sym (step 32 field (λ z. omega (arith, z)) e ∙ ap (λ (i : Option ℕ). value (headBytes s lib a) ▸ rest 31 (nestedOf s lib 31) i) f) ∙ whole-tree field
+
+    -- nothing is looked up in a library that is too long
+    pub long-tree : limit < length s → value (0 ∷ []) ≡ map (encode (tree edition-one (lib .count))) (treeOf s lib field)
+    unfolding headBytes innerOf
+    long-tree h = headed {a = refused 1} (lent-long _ _ h) refl
+
+    -- a negative field is a base type
+    pub base-tree : {code : ℕ} → length s ≤ limit → 0x80000000 ≤ field → code ≡ bitsOf 0 12 field
+        → value (1 ∷ leBytes 2 code) ≡ map (encode (tree edition-one (lib .count))) (treeOf s lib field)
+    unfolding headBytes innerOf leBytes
+    base-tree {code} h k e = headed {a = value (type.Base code)} (lent-fits _ _ _ h (field-base s lib field code k e)) refl

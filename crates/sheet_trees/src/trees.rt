@@ -7,8 +7,9 @@ use typelib::descriptors::DescriptionAnswer;
 ghost use mathlib.Core.Path.{_≡_};
 ghost use mathlib.Core.List.{_++_, _∷_};
 ghost use Rattle.records.specs.Answer.{value, map};
+ghost use Rattle.typelib.specs.declared.TypeLib.{TypeLib as Lib};
 ghost use Rattle.typelib.specs.Told.{toldDescription};
-ghost use Prim.Native.Nat.{_+_};
+ghost use Prim.Native.Nat.{_+_, _≤_};
 ghost use Rattle.description.specs.Format.{encode, leBytes};
 ghost use Rattle.description.specs.Sheet.{edition-one, reference, nested, tree};
 ghost use Rattle.describe.specs.References.{referenceOf};
@@ -18,6 +19,9 @@ ghost use Rattle.sheet_trees.specs.Parts.{arrayBytes, dimensionsBytes, h
 
 // The most descriptions that a tree nests.
 const LEVELS: usize = 32;
+
+// The most bytes that a library has.
+const LIMIT: usize = 16_777_216;
 
 // The type field under a description, if there is one.
 pub enum Inner {
@@ -44,6 +48,18 @@ fn put_nested(s: &[u8], lib: TypeLib, field: u32, levels: usize, out: &mut [u8],
     match under(s, description) {
         Inner::Field(below) => put_nested(s, lib, below, levels - 1, out, t),
         Inner::Nothing => t,
+    }
+}
+
+// The tree of a negative field, a base type. (Most fields are. Its caller saves a copy of the library's 128 bytes, which
+// `put_tree` takes by value.)
+pub fn put_inline(s: &[u8], field: u32, out: &mut [u8], to: usize) -> usize
+    ensures { λ r. ⌜ ((lib : Lib) → 0x80000000 ≤ field → Emitted (map (encode (tree edition-one (lib .count))) (treeOf (now (s .entry)) lib field)) (put to) (now (out .entry)) (put r) (now (out .exit))) ⌝ }
+{
+    if LIMIT < s.len() {
+        emit::put_u8(out, to, 0)
+    } else {
+        put_base(util::bits(field, 0, 12) as u16, out, to)
     }
 }
 
@@ -78,8 +94,7 @@ fn put_code(s: &[u8], lib: TypeLib, d: TypeDescription, out: &mut [u8], to: usiz
 fn put_base(vt: u16, out: &mut [u8], to: usize) -> usize
     ensures { λ r. ⌜ Emitted (value (1 ∷ leBytes 2 vt)) (put to) (now (out .entry)) (put r) (now (out .exit)) ⌝ }
 {
-    let t = emit::put_u8(out, to, 1);
-    emit::put_u16(out, t, vt)
+    emit::put_le(out, to, 1 + 256 * (vt as u64), 3)
 }
 
 fn put_user(s: &[u8], lib: TypeLib, href: u32, out: &mut [u8], to: usize) -> usize

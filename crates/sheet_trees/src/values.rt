@@ -14,16 +14,28 @@ ghost use Rattle.describe.specs.Members.{nameOf, nameBy, memidBy};
 ghost use Rattle.emit.specs.Emit.{Emitted, put};
 ghost use Rattle.sheet_trees.specs.Parts.{optPart};
 
-// The bytes at a place of the library, behind their count in `width` bytes.
-pub fn put_opt_part(s: &[u8], place: PlaceAnswer, width: usize, out: &mut [u8], to: usize) -> usize
-    ensures { λ r. ⌜ Emitted (value (optPart width (found (bytesIn (now (s .entry)) (toldPlace place))))) (put to) (now (out .entry)) (put r) (now (out .exit)) ⌝ }
+// The bytes at a place of the library, behind their count in one byte.
+fn put_opt_counted(s: &[u8], place: PlaceAnswer, out: &mut [u8], to: usize) -> usize
+    ensures { λ r. ⌜ Emitted (value (optPart 1 (found (bytesIn (now (s .entry)) (toldPlace place))))) (put to) (now (out .entry)) (put r) (now (out .exit)) ⌝ }
 {
     match place {
         PlaceAnswer::Value(p) => {
             let bytes = answer::part(s, PlaceAnswer::Value(p));
-            let t = emit::put_u8(out, to, 1);
-            let t = emit::put_le(out, t, bytes.len() as u64, width);
+            let t = emit::put_le(out, to, 1 + 256 * (bytes.len() as u64 % 256), 2);
             emit::put_bytes(bytes, out, t)
+        }
+        PlaceAnswer::Refused(_) => emit::put_u8(out, to, 0),
+    }
+}
+
+// The same with no count.
+fn put_opt_part(s: &[u8], place: PlaceAnswer, out: &mut [u8], to: usize) -> usize
+    ensures { λ r. ⌜ Emitted (value (optPart 0 (found (bytesIn (now (s .entry)) (toldPlace place))))) (put to) (now (out .entry)) (put r) (now (out .exit)) ⌝ }
+{
+    match place {
+        PlaceAnswer::Value(p) => {
+            let t = emit::put_u8(out, to, 1);
+            emit::put_bytes(answer::part(s, PlaceAnswer::Value(p)), out, t)
         }
         PlaceAnswer::Refused(_) => emit::put_u8(out, to, 0),
     }
@@ -33,14 +45,14 @@ pub fn put_opt_part(s: &[u8], place: PlaceAnswer, width: usize, out: &mut [u8], 
 pub fn put_opt_guid(s: &[u8], lib: TypeLib, offset: u32, out: &mut [u8], to: usize) -> usize
     ensures { λ r. ⌜ Emitted (value (encode (opt guid) (guidOf (now (s .entry)) lib offset))) (put to) (now (out .entry)) (put r) (now (out .exit)) ⌝ }
 {
-    put_opt_part(s, lib.guid_at(s, offset), 0, out, to)
+    put_opt_part(s, lib.guid_at(s, offset), out, to)
 }
 
 // The name at an offset.
 pub fn put_opt_name(s: &[u8], lib: TypeLib, offset: u32, out: &mut [u8], to: usize) -> usize
     ensures { λ r. ⌜ Emitted (value (encode (opt name) (nameOf (now (s .entry)) lib offset))) (put to) (now (out .entry)) (put r) (now (out .exit)) ⌝ }
 {
-    put_opt_part(s, lib.name_at(s, offset), 1, out, to)
+    put_opt_counted(s, lib.name_at(s, offset), out, to)
 }
 
 // A member's name: missing where its offset is.
@@ -50,7 +62,7 @@ pub fn put_name_by(s: &[u8], lib: TypeLib, offset: I32Answer, out: &mut [u8], to
     let I32Answer::Value(x) = offset else {
         return emit::put_u8(out, to, 0);
     };
-    put_opt_part(s, lib.name_bytes(s, x), 1, out, to)
+    put_opt_counted(s, lib.name_bytes(s, x), out, to)
 }
 
 // A member's identifier.
@@ -60,6 +72,5 @@ pub fn put_opt_memid(memid: I32Answer, out: &mut [u8], to: usize) -> usize
     let I32Answer::Value(x) = memid else {
         return emit::put_u8(out, to, 0);
     };
-    let t = emit::put_u8(out, to, 1);
-    emit::put_u32(out, t, util::unsigned32(x))
+    emit::put_le(out, to, 1 + 256 * (util::unsigned32(x) as u64), 5)
 }

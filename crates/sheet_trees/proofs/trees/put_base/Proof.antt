@@ -1,27 +1,31 @@
-use Rattle.emit.specs.Laws.{join}
+use native.Mathlib.Omega.{arith}
+use Rattle.emit.specs.Laws.{known, byte-first}
 use borrow.Author.Needs.{needs}
 use Rattle.sheet_trees.proofs.trees.put_base.Statement.{statement}
 use Rattle.sheet_trees.proofs.trees.put_base.Tie as tie
 use Rattle.sheet_trees.proofs.trees.put_base.Reads as reads
 use Rattle.sheet_trees.proofs.trees.put_base.Lts as lts
-use Rattle.emit.proofs.put_u16.Reads as put-u16-reads
-use Rattle.emit.proofs.put_u8.Reads as put-u8-reads
+use Rattle.emit.proofs.put_le.Reads as put-le-reads
 
--- src/trees.rt:76:9
-put-u8-requires : tie.Need-put-u8-requires
-put-u8-requires c κs = search needs
+-- src/trees.rt:100:31
+mul-put-le : tie.Need-mul-put-le
+mul-put-le c = search needs
 
--- src/trees.rt:77:5
-put-u16-requires : tie.Need-put-u16-requires
-put-u16-requires c κs = search needs
+-- src/trees.rt:100:27
+add-put-le : tie.Need-add-put-le
+add-put-le c = search needs
 
--- src/trees.rt:73:1
+-- src/trees.rt:100:5
+put-le-requires : tie.Need-put-le-requires
+put-le-requires c κs = search needs
+
+-- src/trees.rt:97:1
 same-length : tie.Need-same-length
 same-length c = search needs
 
--- src/trees.rt:73:1
+-- src/trees.rt:97:1
 returns : tie.Need-returns
-returns c = join (c .before .before .before .before .before .before .put-u8 .ensures) (c .before .before .put-u16 .ensures)
+returns c = known (byte-first 2 1 _ (omega arith)) (c .before .before .put-le .ensures)
 
 pub put-base-spec : {M : Type 1} → statement M
-put-base-spec = tie.close (tie.spec put-u8-requires put-u16-requires same-length returns)
+put-base-spec = tie.close (tie.spec mul-put-le add-put-le put-le-requires same-length returns)

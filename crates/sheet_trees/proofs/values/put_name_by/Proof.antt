@@ -9,7 +9,7 @@ use Rattle.sheet_trees.proofs.values.put_name_by.Tie as tie
 use Rattle.sheet_trees.proofs.values.put_name_by.Reads as reads
 use Rattle.sheet_trees.proofs.values.put_name_by.Lts as lts
 use Rattle.emit.proofs.put_u8.Reads as put-u8-reads
-use Rattle.sheet_trees.proofs.values.put_opt_part.Reads as put-opt-part-reads
+use Rattle.sheet_trees.proofs.values.put_opt_counted.Reads as put-opt-counted-reads
 use Rattle.typelib.proofs.TypeLib.name_bytes.Reads as name-bytes-reads
 
 -- src/values.rt:51:26
@@ -37,8 +37,8 @@ name-bytes-requires : tie.Need-name-bytes-requires
 name-bytes-requires c κs = search needs
 
 -- src/values.rt:54:5
-put-opt-part-requires : tie.Need-put-opt-part-requires
-put-opt-part-requires c κs = search needs
+put-opt-counted-requires : tie.Need-put-opt-counted-requires
+put-opt-counted-requires c κs = search needs
 
 -- src/values.rt:48:1
 same-length-2 : tie.Need-same-length-2
@@ -46,7 +46,7 @@ same-length-2 c = search needs
 
 -- src/values.rt:48:1
 returns-2 : tie.Need-returns-2
-returns-2 c = known (name-by _ _ _ (c .before .before .before .before .before .before .offset .given .1) (c .before .before .before .before .name-bytes .ensures ∙ ap (nameBytes (c .before .before .before .before .before .before .before .before .before .before .args .s .now) (c .before .before .before .before .before .before .before .before .before .before .args .lib)) (pattern (c .before .before .before .before .before .before .offset .given .0 .0) _ (record { sfits = c .before .before .before .before .before .known-told .given .0 .1 }) refl))) (c .before .before .put-opt-part .ensures)
+returns-2 c = known (name-by _ _ _ (c .before .before .before .before .before .before .offset .given .1) (c .before .before .before .before .name-bytes .ensures ∙ ap (nameBytes (c .before .before .before .before .before .before .before .before .before .before .args .s .now) (c .before .before .before .before .before .before .before .before .before .before .args .lib)) (pattern (c .before .before .before .before .before .before .offset .given .0 .0) _ (record { sfits = c .before .before .before .before .before .known-told .given .0 .1 }) refl))) (c .before .before .put-opt-counted .ensures)
 
 pub put-name-by-spec : {M : Type 1} → statement M
 put-name-by-spec =
@@ -58,6 +58,6 @@ put-name-by-spec =
     same-length
     returns
     name-bytes-requires
-    put-opt-part-requires
+    put-opt-counted-requires
     same-length-2
     returns-2)

@@ -5,7 +5,7 @@ use Rattle.sheet_trees.proofs.values.put_opt_name.Statement.{statement}
 use Rattle.sheet_trees.proofs.values.put_opt_name.Tie as tie
 use Rattle.sheet_trees.proofs.values.put_opt_name.Reads as reads
 use Rattle.sheet_trees.proofs.values.put_opt_name.Lts as lts
-use Rattle.sheet_trees.proofs.values.put_opt_part.Reads as put-opt-part-reads
+use Rattle.sheet_trees.proofs.values.put_opt_counted.Reads as put-opt-counted-reads
 use Rattle.typelib.proofs.TypeLib.name_at.Reads as name-at-reads
 
 -- src/values.rt:44:21
@@ -13,8 +13,8 @@ name-at-requires : tie.Need-name-at-requires
 name-at-requires c κs = search needs
 
 -- src/values.rt:44:5
-put-opt-part-requires : tie.Need-put-opt-part-requires
-put-opt-part-requires c κs = search needs
+put-opt-counted-requires : tie.Need-put-opt-counted-requires
+put-opt-counted-requires c κs = search needs
 
 -- src/values.rt:41:1
 same-length : tie.Need-same-length
@@ -22,7 +22,7 @@ same-length c = search needs
 
 -- src/values.rt:41:1
 returns : tie.Need-returns
-returns c = known (name-is _ _ _ _ (c .before .before .before .before .name-at .ensures)) (c .before .before .put-opt-part .ensures)
+returns c = known (name-is _ _ _ _ (c .before .before .before .before .name-at .ensures)) (c .before .before .put-opt-counted .ensures)
 
 pub put-opt-name-spec : {M : Type 1} → statement M
-put-opt-name-spec = tie.close (tie.spec name-at-requires put-opt-part-requires same-length returns)
+put-opt-name-spec = tie.close (tie.spec name-at-requires put-opt-counted-requires same-length returns)
