@@ -2,7 +2,7 @@
 use mathlib.Core.Path.{_≡_, refl, sym, ap, _∙_}
 use mathlib.Core.Bool.{Bool, true, false}
 use mathlib.Core.List.{List, [], _∷_, _++_, append-assoc}
-use Prim.Native.Nat.{ℕ, _+_, _/_, _%_}
+use Prim.Native.Nat.{ℕ, _+_, _*_, _^_, _/_, _%_, _≤_, _<_}
 use native.Mathlib.Omega.{arith}
 use lib.IntN.{ℤ}
 use lib.ListN.{length}
@@ -25,25 +25,39 @@ use Rattle.cursors.specs.declared.iterators.VarCursor.{VarCursor}
 use Rattle.cursors.specs.declared.iterators.ParamCursor.{ParamCursor}
 use Rattle.cursors.specs.Cursors.{funcsOf, funcStep, varsOf, varStep, paramsOf, paramStep}
 use Rattle.typelib.specs.TypeInfos.{funcMemid, varMemid, funcNameOffset, varNameOffset}
-use Rattle.description.specs.Format.{Format, encode, opt, list, leBytes}
+use Rattle.description.specs.Format.{Format, encode, opt, list, leBytes, length-leBytes}
 use Rattle.description.specs.Description.{Bytes, Tree, Parameter, Function, Variable, isConstant}
 use Rattle.description.specs.Sheet.{edition-one, u16, u32, name, constant, tree, variableValue, variable, parameter, function}
 use Rattle.describe.specs.Values.{fieldOf, all, numbered}
 use Rattle.describe.specs.Trees.{treeOf}
 use Rattle.describe.specs.Constants.{constantOf}
 use Rattle.describe.specs.Members.{funcRecords, varRecords, paramRecords, yields, nameOf, nameBy, memidBy, constantBy, defaultOf, parameterWith, parameterOf, parametersOf, functionWith, functionOf, functionsOf, valueWith, variableWith, variableOf, variablesOf}
-use Rattle.emit.specs.Emit.{_▸_}
+use Rattle.emit.specs.Emit.{Put}
+use Rattle.emit.specs.Emit.{_▸_, Emitted, put, past}
+use Rattle.emit.specs.Laws.{leBytes-join, patched}
 use Rattle.sheet_members.specs.Lists.{layAll, members-laid, members-none}
 use Rattle.sheet_members.specs.Words.{functionWords, valueBytes}
 
-pub words-is : (s : List ℕ) (at : ℕ)
-    → value (leBytes 4 (orZero (read 4 s (at + 8))))
-    ▸ (value (leBytes 2 (orZero (read 2 s (at + 12))))
-    ▸ (value (leBytes 4 (orZero (read 4 s (at + 16))))
-    ▸ (value (leBytes 2 (orZero (read 2 s (at + 20)))) ▸ value (leBytes 2 (orZero (read 2 s (at + 22)))))))
-    ≡ value (functionWords s at)
+-- the words, as two numbers
+pub words-is : (s : List ℕ) (at : ℕ) {a b c d e : ℕ}
+    → a ≡ orZero (read 4 s (at + 8)) → b ≡ orZero (read 2 s (at + 12))
+    → c ≡ orZero (read 4 s (at + 16)) → d ≡ orZero (read 2 s (at + 20)) → e ≡ orZero (read 2 s (at + 22))
+    → a < 2 ^ 32 → c < 2 ^ 32 → d < 2 ^ 16
+    → value (leBytes 6 (a + 4294967296 * b)) ▸ value (leBytes 8 (c + 4294967296 * (d + 65536 * e))) ≡ value (functionWords s at)
 unfolding functionWords
-words-is s at = refl
+words-is s at {a} {b} {c} {d} {e} ea eb ec ed ee h k l =
+    ap value
+    (ap (λ (x : Bytes). x ++ leBytes 8 (c + 4294967296 * (d + 65536 * e))) (leBytes-join 4 2 a b h)
+    ∙ ap (λ (x : Bytes). (leBytes 4 a ++ leBytes 2 b) ++ x) (leBytes-join 4 4 c (d + 65536 * e) k)
+    ∙ ap (λ (x : Bytes). (leBytes 4 a ++ leBytes 2 b) ++ (leBytes 4 c ++ x)) (leBytes-join 2 2 d e l)
+    ∙ append-assoc (leBytes 4 a) (leBytes 2 b) _
+    ∙ rw (ea, eb, ec, ed, ee))
+
+-- their count m is put over a 0 once they are emitted; it is theirs, n, where nothing was refused
+pub counted : {n m r : ℕ} {y : Answer Bytes} {t s u : Put} {o o₁ o₂ o₃ : List ℕ} → (r ≤ past → m ≡ n)
+    → Emitted (value (leBytes 2 0)) t o s o₁ → Emitted y s o₁ (put r) o₂ → Emitted (value (leBytes 2 m)) t o₂ u o₃
+    → Emitted (value (leBytes 2 n) ▸ y) t o (put r) o₃
+counted {n} {m} h = patched (length-leBytes 2 0 ∙ sym (length-leBytes 2 m)) (length-leBytes 2 m ∙ sym (length-leBytes 2 n)) (λ k. ap (leBytes 2) (h k))
 
 module _ (s : List ℕ) (lib : TypeLib) where
   -- ---- constants
@@ -56,14 +70,18 @@ module _ (s : List ℕ) (lib : TypeLib) where
   unfolding opt
   constant-missing {x} {n} e = rw e
 
-  pub default-set : (flags : ℕ) (a : Answer ℤ) → flags / 0x20 % 2 ≡ 1
-      → value (encode (opt constant) (constantBy s lib a)) ≡ value (encode (opt constant) (defaultOf s lib flags a))
+  pub default-set : (flags : ℕ) {x a : Answer ℤ} → x ≡ a → flags / 0x20 % 2 ≡ 1
+      → value (leBytes 4 flags) ▸ value (encode (opt constant) (constantBy s lib x)) ≡ value (leBytes 4 flags ++ encode (opt constant) (defaultOf s lib flags a))
   unfolding defaultOf
-  default-set flags a h = rw (eq-eqb (flags / 0x20 % 2) 1 h)
+  default-set flags {x} {a} e h = rw (e, eq-eqb (flags / 0x20 % 2) 1 h)
 
-  pub default-unset : (flags : ℕ) (a : Answer ℤ) → (flags / 0x20 % 2 ≡ 1 → ⊥) → value (0 ∷ []) ≡ value (encode (opt constant) (defaultOf s lib flags a))
-  unfolding defaultOf opt
-  default-unset flags a h = rw (ne-eqb (flags / 0x20 % 2) 1 h)
+  pub default-unset : (flags : ℕ) (a : Answer ℤ) → flags < 2 ^ 32 → (flags / 0x20 % 2 ≡ 1 → ⊥)
+      → value (leBytes 5 flags) ≡ value (leBytes 4 flags ++ encode (opt constant) (defaultOf s lib flags a))
+  unfolding defaultOf opt leBytes
+  default-unset flags a k h =
+      let e : flags + 256 ^ 4 * 0 ≡ flags = omega arith in
+      let q : leBytes 5 flags ≡ leBytes 4 flags ++ (0 ∷ []) = rw e at (leBytes-join 4 1 flags 0 k) in
+      rw (ne-eqb (flags / 0x20 % 2) 1 h) (ap value q)
 
   value-true : (x : ℕ) (b : Bool) → b ≡ true → encode (opt constant) (constantOf s lib x) ≡ valueBytes b (valueWith s lib b x)
   unfolding valueBytes
@@ -86,20 +104,19 @@ module _ (s : List ℕ) (lib : TypeLib) where
   abbrev bytesOfTree : Answer Tree → Answer Bytes
   bytesOfTree = map (encode (tree edition-one (lib .count)))
 
-  pub parameter-is : (f : FuncRecord) (i : ℕ) (p : Place) {field offset flags : ℕ} (a : Answer ℤ)
+  pub parameter-is : (f : FuncRecord) (i : ℕ) (p : Place) {field offset flags : ℕ}
       → field ≡ orZero (read 4 s (p .at + 0)) → offset ≡ orZero (read 4 s (p .at + 4)) → flags ≡ orZero (read 4 s (p .at + 8))
-      → a ≡ defaultValueOffset i s (f .at) (f .len)
       → bytesOfTree (treeOf s lib field)
-      ▸ (value (encode (opt name) (nameOf s lib offset)) ▸ (value (leBytes 4 flags) ▸ value (encode (opt constant) (defaultOf s lib flags a))))
+      ▸ (value (encode (opt name) (nameOf s lib offset)) ▸ value (leBytes 4 flags ++ encode (opt constant) (defaultOf s lib flags (defaultValueOffset i s (f .at) (f .len)))))
       ≡ map (encode (parameter edition-one (lib .count))) (parameterOf s lib f i p)
   unfolding parameterOf parameter
-  parameter-is f i p {field} {offset} {flags} a e g h k = rw (e, g, h, k) (by (treeOf s lib (orZero (read 4 s (p .at + 0)))))
+  parameter-is f i p {field} {offset} {flags} e g h = rw (e, g, h) (by (treeOf s lib (orZero (read 4 s (p .at + 0)))))
     where
       by : (t : Answer Tree)
           → bytesOfTree t
           ▸ (value (encode (opt name) (nameOf s lib (orZero (read 4 s (p .at + 4)))))
-          ▸ (value (leBytes 4 (orZero (read 4 s (p .at + 8))))
-          ▸ value (encode (opt constant) (defaultOf s lib (orZero (read 4 s (p .at + 8))) (defaultValueOffset i s (f .at) (f .len))))))
+          ▸ value (leBytes 4 (orZero (read 4 s (p .at + 8)))
+          ++ encode (opt constant) (defaultOf s lib (orZero (read 4 s (p .at + 8))) (defaultValueOffset i s (f .at) (f .len)))))
           ≡ map (encode (parameter edition-one (lib .count))) (map (parameterWith s lib f i (p .at)) t)
       by (value t) = refl
       by (refused n) = refl

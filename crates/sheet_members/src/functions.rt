@@ -1,4 +1,5 @@
 // Functions.
+use crate::Listed;
 use crate::parameters;
 use cursors::iterators;
 use cursors::iterators::FuncCursor;
@@ -10,6 +11,7 @@ use sheet_trees::trees;
 use sheet_trees::values;
 use typelib::TypeLib;
 ghost use mathlib.Core.Path.{_≡_};
+ghost use Prim.Native.Nat.{_≤_};
 ghost use lib.ListN.{length};
 ghost use Rattle.records.specs.Answer.{value, map};
 ghost use Rattle.cursors.specs.Cursors.{funcStep};
@@ -17,7 +19,7 @@ ghost use Rattle.description.specs.Format.{encode, list};
 ghost use Rattle.description.specs.Sheet.{edition-one, u16, function};
 ghost use Rattle.describe.specs.Values.{all, numbered};
 ghost use Rattle.describe.specs.Members.{yields, functionOf, functionsOf};
-ghost use Rattle.emit.specs.Emit.{Emitted, put};
+ghost use Rattle.emit.specs.Emit.{Emitted, put, past};
 ghost use Rattle.sheet_members.specs.Lists.{layAll};
 ghost use Rattle.sheet_members.specs.Words.{functionWords};
 
@@ -27,29 +29,18 @@ pub fn put_functions(s: &[u8], lib: TypeLib, ti: TypeInfoEntry, out: &mut [u8], 
 {
     match iterators::funcs(s, ti) {
         FuncsAnswer::Value(cursor) => {
-            let t = emit::put_le(out, to, count(s, cursor) as u64, 2);
-            put_each(s, lib, ti, cursor, out, t)
+            // the count is known once they are emitted
+            let t = emit::put_u16(out, to, 0);
+            let listed = put_each(s, lib, ti, cursor, out, t);
+            emit::put_le(out, to, listed.count as u64, 2);
+            listed.to
         }
         FuncsAnswer::Refused(_) => emit::put_u16(out, to, 0),
     }
 }
 
-// How many functions the cursor yields.
-fn count(s: &[u8], cursor: FuncCursor) -> usize
-    ensures { λ r. ⌜ r ≡ length (yields (funcStep (now (s .entry))) (cursor .remaining) cursor) ⌝ }
-{
-    let mut c = cursor;
-    let mut n: usize = 0;
-    loop {
-        let FuncStep::Record(_, next) = c.step(s) else {
-            return n;
-        };
-        c = next;
-        n += 1;
-    }
-}
-
-// Each function that the cursor yields. (A refusal ends it at once: nothing is emitted behind one.)
+// Each function that the cursor yields. (A refusal ends it at once: nothing is emitted behind one, and
+// the count is not theirs.)
 fn put_each(
     s: &[u8],
     lib: TypeLib,
@@ -57,18 +48,18 @@ fn put_each(
     cursor: FuncCursor,
     out: &mut [u8],
     to: usize,
-) -> usize
-    ensures { λ r. ⌜ Emitted (layAll (function edition-one (lib .count)) (numbered (functionOf (now (s .entry)) lib ti) 0 (yields (funcStep (now (s .entry))) (cursor .remaining) cursor))) (put to) (now (out .entry)) (put r) (now (out .exit)) ⌝ }
+) -> Listed
+    ensures { λ r. ⌜ Emitted (layAll (function edition-one (lib .count)) (numbered (functionOf (now (s .entry)) lib ti) 0 (yields (funcStep (now (s .entry))) (cursor .remaining) cursor))) (put to) (now (out .entry)) (put (r .to)) (now (out .exit)) × (r .to ≤ past → r .count ≡ length (yields (funcStep (now (s .entry))) (cursor .remaining) cursor)) ⌝ }
 {
     let mut t = to;
     let mut c = cursor;
     let mut i: usize = 0;
     loop {
         if emit::PAST < t {
-            return t;
+            return Listed { to: t, count: i };
         }
         let FuncStep::Record(func, next) = c.step(s) else {
-            return t;
+            return Listed { to: t, count: i };
         };
         t = put_function(s, lib, ti, i, func, out, t);
         c = next;
@@ -90,18 +81,25 @@ fn put_function(
 {
     let t = values::put_opt_memid(lib.func_memid(s, ti, index), out, to);
     let t = values::put_name_by(s, lib, lib.func_name_offset(s, ti, index), out, t);
-    let t = trees::put_tree(s, lib, emit::word_at(s, func.at, 0x04), out, t);
+    let field = emit::word_at(s, func.at, 0x04);
+    let t = if crate::NEGATIVE <= field {
+        trees::put_inline(s, field, out, t)
+    } else {
+        trees::put_tree(s, lib, field, out, t)
+    };
     let t = put_words(s, func.at, out, t);
     parameters::put_parameters(s, lib, func, out, t)
 }
 
-// The words of the record at `at` from 0x08 on.
+// The words of the record at `at` from 0x08 on, as two numbers.
 fn put_words(s: &[u8], at: usize, out: &mut [u8], to: usize) -> usize
     ensures { λ r. ⌜ Emitted (value (functionWords (now (s .entry)) at)) (put to) (now (out .entry)) (put r) (now (out .exit)) ⌝ }
 {
-    let t = emit::copy_u32(s, at, 0x08, out, to);
-    let t = emit::copy_u16(s, at, 0x0C, out, t);
-    let t = emit::copy_u32(s, at, 0x10, out, t);
-    let t = emit::copy_u16(s, at, 0x14, out, t);
-    emit::copy_u16(s, at, 0x16, out, t)
+    let flags = emit::word_at(s, at, 0x08) as u64;
+    let vtable_offset = emit::half_at(s, at, 0x0C) as u64;
+    let fkccic = emit::word_at(s, at, 0x10) as u64;
+    let nrargs = emit::half_at(s, at, 0x14) as u64;
+    let nroargs = emit::half_at(s, at, 0x16) as u64;
+    let t = emit::put_le(out, to, flags + 4294967296 * vtable_offset, 6);
+    emit::put_le(out, t, fkccic + 4294967296 * (nrargs + 65536 * nroargs), 8)
 }

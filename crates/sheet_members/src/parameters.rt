@@ -1,4 +1,5 @@
 // Parameters.
+use crate::Listed;
 use cursors::iterators;
 use cursors::iterators::ParamCursor;
 use cursors::iterators::ParamStep;
@@ -10,15 +11,18 @@ use sheet_trees::trees;
 use sheet_trees::values;
 use typelib::TypeLib;
 ghost use mathlib.Core.Path.{_≡_};
+ghost use mathlib.Core.List.{_++_};
+ghost use Prim.Native.Nat.{_≤_};
 ghost use lib.ListN.{length};
 ghost use Rattle.records.specs.Answer.{value, map};
+ghost use Rattle.records.specs.Attributes.{defaultValueOffset};
 ghost use Rattle.records.specs.Told.{toldI32};
 ghost use Rattle.cursors.specs.Cursors.{paramStep};
-ghost use Rattle.description.specs.Format.{encode, opt, list};
+ghost use Rattle.description.specs.Format.{encode, opt, list, leBytes};
 ghost use Rattle.description.specs.Sheet.{edition-one, u16, constant, parameter};
 ghost use Rattle.describe.specs.Values.{all, numbered};
 ghost use Rattle.describe.specs.Members.{yields, constantBy, defaultOf, parameterOf, parametersOf};
-ghost use Rattle.emit.specs.Emit.{Emitted, put};
+ghost use Rattle.emit.specs.Emit.{Emitted, put, past};
 ghost use Rattle.sheet_members.specs.Lists.{layAll};
 
 // The parameters of a function: how many are yielded, and each.
@@ -27,29 +31,18 @@ pub fn put_parameters(s: &[u8], lib: TypeLib, func: FuncRecord, out: &mut [u8], 
 {
     match iterators::params(s, func) {
         ParamsAnswer::Value(cursor) => {
-            let t = emit::put_le(out, to, count(s, cursor) as u64, 2);
-            put_each(s, lib, func, cursor, out, t)
+            // the count is known once they are emitted
+            let t = emit::put_u16(out, to, 0);
+            let listed = put_each(s, lib, func, cursor, out, t);
+            emit::put_le(out, to, listed.count as u64, 2);
+            listed.to
         }
         ParamsAnswer::Refused(_) => emit::put_u16(out, to, 0),
     }
 }
 
-// How many parameters the cursor yields.
-fn count(s: &[u8], cursor: ParamCursor) -> usize
-    ensures { λ r. ⌜ r ≡ length (yields (paramStep (now (s .entry))) (cursor .remaining) cursor) ⌝ }
-{
-    let mut c = cursor;
-    let mut n: usize = 0;
-    loop {
-        let ParamStep::Record(_, next) = c.step(s) else {
-            return n;
-        };
-        c = next;
-        n += 1;
-    }
-}
-
-// Each parameter that the cursor yields. (A refusal ends it at once: nothing is emitted behind one.)
+// Each parameter that the cursor yields. (A refusal ends it at once: nothing is emitted behind one, and
+// the count is not theirs.)
 fn put_each(
     s: &[u8],
     lib: TypeLib,
@@ -57,18 +50,18 @@ fn put_each(
     cursor: ParamCursor,
     out: &mut [u8],
     to: usize,
-) -> usize
-    ensures { λ r. ⌜ Emitted (layAll (parameter edition-one (lib .count)) (numbered (parameterOf (now (s .entry)) lib func) 0 (yields (paramStep (now (s .entry))) (cursor .remaining) cursor))) (put to) (now (out .entry)) (put r) (now (out .exit)) ⌝ }
+) -> Listed
+    ensures { λ r. ⌜ Emitted (layAll (parameter edition-one (lib .count)) (numbered (parameterOf (now (s .entry)) lib func) 0 (yields (paramStep (now (s .entry))) (cursor .remaining) cursor))) (put to) (now (out .entry)) (put (r .to)) (now (out .exit)) × (r .to ≤ past → r .count ≡ length (yields (paramStep (now (s .entry))) (cursor .remaining) cursor)) ⌝ }
 {
     let mut t = to;
     let mut c = cursor;
     let mut i: usize = 0;
     loop {
         if emit::PAST < t {
-            return t;
+            return Listed { to: t, count: i };
         }
         let ParamStep::Record(param, next) = c.step(s) else {
-            return t;
+            return Listed { to: t, count: i };
         };
         t = put_parameter(s, lib, func, i, param, out, t);
         c = next;
@@ -89,27 +82,34 @@ fn put_parameter(
     ensures { λ r. ⌜ Emitted (map (encode (parameter edition-one (lib .count))) (parameterOf (now (s .entry)) lib func index (record { at = param .at; len = param .len }))) (put to) (now (out .entry)) (put r) (now (out .exit)) ⌝ }
 {
     let flags = emit::word_at(s, param.at, 0x08);
-    let t = trees::put_tree(s, lib, emit::word_at(s, param.at, 0x00), out, to);
+    let field = emit::word_at(s, param.at, 0x00);
+    let t = if crate::NEGATIVE <= field {
+        trees::put_inline(s, field, out, to)
+    } else {
+        trees::put_tree(s, lib, field, out, to)
+    };
     let t = values::put_opt_name(s, lib, emit::word_at(s, param.at, 0x04), out, t);
-    let t = emit::put_u32(out, t, flags);
-    put_default(s, lib, flags, func.default_value_offset(s, index), out, t)
+    put_flags(s, lib, func, index, flags, out, t)
 }
 
-// A parameter's default value, where its flags have 0x20.
-fn put_default(
+// A parameter's flags, and its default value where they have 0x20. (Where they have not, the flags and
+// the byte 0 are one number.)
+fn put_flags(
     s: &[u8],
     lib: TypeLib,
+    func: FuncRecord,
+    index: usize,
     flags: u32,
-    offset: I32Answer,
     out: &mut [u8],
     to: usize,
 ) -> usize
-    ensures { λ r. ⌜ Emitted (value (encode (opt constant) (defaultOf (now (s .entry)) lib flags (toldI32 offset)))) (put to) (now (out .entry)) (put r) (now (out .exit)) ⌝ }
+    ensures { λ r. ⌜ Emitted (value (leBytes 4 flags ++ encode (opt constant) (defaultOf (now (s .entry)) lib flags (defaultValueOffset index (now (s .entry)) (func .at) (func .len))))) (put to) (now (out .entry)) (put r) (now (out .exit)) ⌝ }
 {
     if flags / 0x20 % 2 == 1 {
-        put_constant_by(s, lib, offset, out, to)
+        let t = emit::put_u32(out, to, flags);
+        put_constant_by(s, lib, func.default_value_offset(s, index), out, t)
     } else {
-        emit::put_u8(out, to, 0)
+        emit::put_le(out, to, flags as u64, 5)
     }
 }
 

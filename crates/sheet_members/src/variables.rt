@@ -1,4 +1,5 @@
 // Variables.
+use crate::Listed;
 use cursors::iterators;
 use cursors::iterators::VarCursor;
 use cursors::iterators::VarStep;
@@ -9,6 +10,7 @@ use sheet_trees::trees;
 use sheet_trees::values;
 use typelib::TypeLib;
 ghost use mathlib.Core.Path.{_≡_};
+ghost use Prim.Native.Nat.{_≤_};
 ghost use lib.ListN.{length};
 ghost use Rattle.records.specs.Answer.{value, map};
 ghost use Rattle.cursors.specs.Cursors.{varStep};
@@ -17,7 +19,7 @@ ghost use Rattle.description.specs.Description.{isConstant};
 ghost use Rattle.description.specs.Sheet.{edition-one, u16, variable};
 ghost use Rattle.describe.specs.Values.{all, numbered};
 ghost use Rattle.describe.specs.Members.{yields, valueWith, variableOf, variablesOf};
-ghost use Rattle.emit.specs.Emit.{Emitted, put};
+ghost use Rattle.emit.specs.Emit.{Emitted, put, past};
 ghost use Rattle.sheet_members.specs.Lists.{layAll};
 ghost use Rattle.sheet_members.specs.Words.{valueBytes};
 
@@ -27,29 +29,18 @@ pub fn put_variables(s: &[u8], lib: TypeLib, ti: TypeInfoEntry, out: &mut [u8], 
 {
     match iterators::vars(s, ti) {
         VarsAnswer::Value(cursor) => {
-            let t = emit::put_le(out, to, count(s, cursor) as u64, 2);
-            put_each(s, lib, ti, cursor, out, t)
+            // the count is known once they are emitted
+            let t = emit::put_u16(out, to, 0);
+            let listed = put_each(s, lib, ti, cursor, out, t);
+            emit::put_le(out, to, listed.count as u64, 2);
+            listed.to
         }
         VarsAnswer::Refused(_) => emit::put_u16(out, to, 0),
     }
 }
 
-// How many variables the cursor yields.
-fn count(s: &[u8], cursor: VarCursor) -> usize
-    ensures { λ r. ⌜ r ≡ length (yields (varStep (now (s .entry))) (cursor .remaining) cursor) ⌝ }
-{
-    let mut c = cursor;
-    let mut n: usize = 0;
-    loop {
-        let VarStep::Record(_, next) = c.step(s) else {
-            return n;
-        };
-        c = next;
-        n += 1;
-    }
-}
-
-// Each variable that the cursor yields. (A refusal ends it at once: nothing is emitted behind one.)
+// Each variable that the cursor yields. (A refusal ends it at once: nothing is emitted behind one, and
+// the count is not theirs.)
 fn put_each(
     s: &[u8],
     lib: TypeLib,
@@ -57,18 +48,18 @@ fn put_each(
     cursor: VarCursor,
     out: &mut [u8],
     to: usize,
-) -> usize
-    ensures { λ r. ⌜ Emitted (layAll (variable edition-one (lib .count)) (numbered (variableOf (now (s .entry)) lib ti) 0 (yields (varStep (now (s .entry))) (cursor .remaining) cursor))) (put to) (now (out .entry)) (put r) (now (out .exit)) ⌝ }
+) -> Listed
+    ensures { λ r. ⌜ Emitted (layAll (variable edition-one (lib .count)) (numbered (variableOf (now (s .entry)) lib ti) 0 (yields (varStep (now (s .entry))) (cursor .remaining) cursor))) (put to) (now (out .entry)) (put (r .to)) (now (out .exit)) × (r .to ≤ past → r .count ≡ length (yields (varStep (now (s .entry))) (cursor .remaining) cursor)) ⌝ }
 {
     let mut t = to;
     let mut c = cursor;
     let mut i: usize = 0;
     loop {
         if emit::PAST < t {
-            return t;
+            return Listed { to: t, count: i };
         }
         let VarStep::Record(var, next) = c.step(s) else {
-            return t;
+            return Listed { to: t, count: i };
         };
         t = put_variable(s, lib, ti, i, var, out, t);
         c = next;
@@ -91,7 +82,12 @@ fn put_variable(
     let varkind = emit::half_at(s, var.at, 0x0C);
     let t = values::put_opt_memid(lib.var_memid(s, ti, index), out, to);
     let t = values::put_name_by(s, lib, lib.var_name_offset(s, ti, index), out, t);
-    let t = trees::put_tree(s, lib, emit::word_at(s, var.at, 0x04), out, t);
+    let field = emit::word_at(s, var.at, 0x04);
+    let t = if crate::NEGATIVE <= field {
+        trees::put_inline(s, field, out, t)
+    } else {
+        trees::put_tree(s, lib, field, out, t)
+    };
     let t = emit::copy_u32(s, var.at, 0x08, out, t);
     let t = emit::put_u16(out, t, varkind);
     put_value(s, lib, varkind, emit::word_at(s, var.at, 0x10), out, t)
