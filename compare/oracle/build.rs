@@ -1,8 +1,9 @@
 //! Declares the reference's own files as modules of this package's library, and links the product
 //! if it is there.
 //!
-//! The files are compiled where they lie, unchanged. Only a list of module declarations is
-//! written, into cargo's output folder; `src/lib.rs` includes it.
+//! The files are compiled where they lie, unchanged; of those that keep to themselves what an export
+//! for C gives, a copy with our lines of `src/peeks` behind it. The copies and a list of module
+//! declarations are written into cargo's output folder; `src/lib.rs` includes the list.
 
 use std::path::{Path, PathBuf};
 use std::{env, fs};
@@ -37,6 +38,17 @@ const MODULES: [&str; 16] = [
     "var",
 ];
 
+/// The files with private fields that a comparison must see: the bytes of a record, and the numbers
+/// of a cursor. Each gets our lines behind it, which only read them.
+const PEEKED: [&str; 6] = [
+    "arraydesc",
+    "impfile",
+    "impinfo",
+    "iterators",
+    "param",
+    "refrecord",
+];
+
 fn main() {
     declare_reference();
     link_product();
@@ -52,13 +64,29 @@ fn declare_reference() {
         .join("src");
     let mut declarations = String::new();
     for module in MODULES {
-        let file = absolute(&folder.join(module).with_extension("rs"), SOURCE_HINT);
+        let mut file = absolute(&folder.join(module).with_extension("rs"), SOURCE_HINT);
         println!("cargo::rerun-if-changed={}", file.display());
+        if PEEKED.contains(&module) {
+            file = with_peeks(&file, module);
+        }
         declarations += &format!("#[path = {file:?}]\nmod {module};\n");
     }
 
     let list = cargo_folder("OUT_DIR").join("modules.rs");
     fs::write(&list, declarations).expect("cargo's output folder can be written");
+}
+
+/// A copy of the reference's file with our lines behind it.
+fn with_peeks(file: &Path, module: &str) -> PathBuf {
+    let peeks = cargo_folder("CARGO_MANIFEST_DIR")
+        .join("src/peeks")
+        .join(module)
+        .with_extension("rs");
+    println!("cargo::rerun-if-changed={}", peeks.display());
+    let parts = [file, &peeks].map(|part| fs::read_to_string(part).expect("a source can be read"));
+    let copy = cargo_folder("OUT_DIR").join(module).with_extension("rs");
+    fs::write(&copy, parts.join("\n")).expect("cargo's output folder can be written");
+    copy
 }
 
 /// Links the archive and says so to the sources by the cfg `product`.

@@ -1,4 +1,4 @@
-//! Inputs for comparing sheets: real libraries, their beginnings, damaged ones, made-up ones, and
+//! Inputs for comparing: real libraries, their beginnings, damaged ones, made-up ones, and
 //! the edges of document 01. Each has a number, and the same seed always gives the same inputs.
 
 pub mod damage;
@@ -6,6 +6,8 @@ pub mod edges;
 pub mod large;
 pub mod layout;
 pub mod made;
+pub mod records;
+pub mod texts;
 
 use std::path::{Path, PathBuf};
 use std::{env, fs};
@@ -47,8 +49,16 @@ pub struct Inputs {
 }
 
 impl Inputs {
+    /// Inputs from the usual folder of real libraries.
     pub fn new(seed: u64) -> Self {
-        let corpus = corpus_paths()
+        let folder = env::var_os(CORPUS_VARIABLE).unwrap_or(DEFAULT_CORPUS.into());
+        let root = Path::new(env!("CARGO_MANIFEST_DIR")).join("../..");
+        Inputs::of_folder(seed, &root.join(folder))
+    }
+
+    /// Inputs from this folder of real libraries.
+    pub fn of_folder(seed: u64, folder: &Path) -> Self {
+        let corpus = corpus_paths(folder)
             .iter()
             .map(|path| {
                 let name = path.file_stem().unwrap_or_default().to_string_lossy();
@@ -122,7 +132,7 @@ impl Inputs {
     }
 
     /// Each number has a generator of its own, so that any input can be made again alone.
-    fn random(&self, number: u64) -> Random {
+    pub fn random(&self, number: u64) -> Random {
         let mut start = Random::new(self.seed);
         Random::new(start.number() ^ number.wrapping_mul(0xD6E8_FEB8_6659_FD93))
     }
@@ -137,12 +147,8 @@ impl Inputs {
     }
 }
 
-fn corpus_paths() -> Vec<PathBuf> {
-    let folder = env::var_os(CORPUS_VARIABLE).unwrap_or(DEFAULT_CORPUS.into());
-    let folder = Path::new(env!("CARGO_MANIFEST_DIR"))
-        .join("../..")
-        .join(folder);
-    let listed = fs::read_dir(&folder).unwrap_or_else(|error| {
+fn corpus_paths(folder: &Path) -> Vec<PathBuf> {
+    let listed = fs::read_dir(folder).unwrap_or_else(|error| {
         panic!(
             "{}: {error}; set {CORPUS_VARIABLE} to the folder of libraries",
             folder.display()

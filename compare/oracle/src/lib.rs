@@ -7,8 +7,12 @@
 // One `mod` for each of the reference's files, written by `build.rs`.
 include!(concat!(env!("OUT_DIR"), "/modules.rs"));
 
+pub mod c_header;
+pub mod comparing;
 pub mod coverage;
 pub mod enumerate;
+#[cfg(product)]
+pub mod exports;
 pub mod inputs;
 pub mod library;
 #[cfg(product)]

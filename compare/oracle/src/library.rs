@@ -1,14 +1,12 @@
 //! What the reference answers to every reading of a library, as bytes, and the sheet made from it.
 
 use std::collections::HashSet;
-use std::fmt::Debug;
 
-use crate::enumerate::segment_start;
 use crate::readings::{NOTHING, Reading, Reply, VALUE, place_in, reading};
 use crate::sheet::sheet;
 use crate::{
-    ArrayDesc, ConstValue, Error, FuncRecord, GuidEntry, ImpFile, ImpInfo, ParameterInfo,
-    RefRecord, ResolvedHreftype, TypeDescription, TypeInfoEntry, TypeLib,
+    ConstValue, Error, FuncRecord, GuidEntry, ResolvedHreftype, TypeDescription, TypeInfoEntry,
+    TypeLib,
 };
 
 /// Numbers of the segments.
@@ -276,11 +274,9 @@ impl<'a> Told<'a> {
                 self.tell("type_desc_at", lib.type_desc(word).map(|(a, b)| Case(a, b)));
             }
             Ask::ArrayDesc => {
-                let place = lib
-                    .array_desc(word)
-                    .map(|array| array_place(lib, word, array));
-                self.own(place);
-                self.tell("array_desc_at", place);
+                let bytes = lib.array_desc(word).map(|array| array.held());
+                self.own(bytes);
+                self.tell("array_desc_at", bytes);
             }
             Ask::TypeDescription => {
                 self.description("type_description", lib, word);
@@ -291,9 +287,9 @@ impl<'a> Told<'a> {
                 self.constant("const_at", lib.const_value(word));
             }
             Ask::ImpFile => {
-                let place = lib.imp_file(word).map(|file| imp_file_place(lib, file));
-                self.own(place);
-                self.tell("imp_file_at", place);
+                let bytes = lib.imp_file(word).map(|file| file.held());
+                self.own(bytes);
+                self.tell("imp_file_at", bytes);
             }
             Ask::ResolveHreftype => self.own(lib.resolve_hreftype(word)),
             Ask::ResolveHreftypeFull => self.resolved(lib, word),
@@ -310,8 +306,7 @@ impl<'a> Told<'a> {
             Some(TypeDescription::SafeArray(field)) => self.tell(method, Case(3u8, field)),
             Some(TypeDescription::CArray(array)) => {
                 self.tell(method, 4u8);
-                let (_, second) = lib.type_desc(word).expect("it has just been read");
-                self.tell("C array", array_place(lib, second & 0xFFFF, array));
+                self.tell("C array", array.held());
             }
             Some(TypeDescription::UserDefined(href)) => self.tell(method, Case(5u8, href)),
         }
@@ -360,12 +355,8 @@ impl<'a> Told<'a> {
             Some(ResolvedHreftype::Internal(index)) => self.own(Case(1u8, index as u64)),
             Some(ResolvedHreftype::External { imp_info, imp_file }) => {
                 self.own(2u8);
-                let offset = (word & !0x0100_0003) as usize;
-                self.tell("import record", import_place(lib, offset, imp_info));
-                self.tell(
-                    "import file",
-                    imp_file.map(|file| imp_file_place(lib, file)),
-                );
+                self.tell("import record", imp_info.held());
+                self.tell("import file", imp_file.map(|file| file.held()));
             }
         }
     }
@@ -374,16 +365,11 @@ impl<'a> Told<'a> {
     /// kept to the file, and of import records, which are kept to their segment too.
     fn table_place(&mut self, lib: &TypeLib<'a>, [segment, size, offset]: [u32; 3]) {
         let place = match (segment as usize, size) {
-            (GUID_SEGMENT, 16) => lib.guid(offset as i32).map(|guid| Place {
-                at: place_in(self.lent, guid.as_bytes()),
-                len: guid.as_bytes().len(),
-            }),
+            (GUID_SEGMENT, 16) => lib.guid(offset as i32).map(|guid| guid.as_bytes()),
             (IMPORT_SEGMENT, 12) => {
                 assert_eq!(offset & 0x0100_0003, 0, "these bits are the reference's");
                 match lib.resolve_hreftype_full(offset as i32 | 1) {
-                    Some(ResolvedHreftype::External { imp_info, .. }) => {
-                        Some(import_place(lib, offset as usize, imp_info))
-                    }
+                    Some(ResolvedHreftype::External { imp_info, .. }) => Some(imp_info.held()),
                     _ => None,
                 }
             }
@@ -472,18 +458,14 @@ impl<'a> Told<'a> {
 
     /// The items of an iterator that says how many are left at most, each behind what it says; then its
     /// end, twice.
-    fn hinted<I: Iterator>(
-        &mut self,
-        mut items: I,
-        mut record: impl FnMut(&mut Self, I::Item, usize),
-    ) {
+    fn hinted<I: Iterator>(&mut self, mut items: I, mut record: impl FnMut(&mut Self, I::Item)) {
         let mut ends = 0;
         while ends < 2 {
             let (_, most) = items.size_hint();
             let most = most.expect("these iterators know");
             self.tell("size_hint", most);
             match items.next() {
-                Some(item) => record(self, item, most),
+                Some(item) => record(self, item),
                 None => {
                     self.end();
                     ends += 1;
@@ -503,31 +485,21 @@ impl<'a> Told<'a> {
     }
 
     fn typeinfos(&mut self, lib: &TypeLib<'a>) {
-        self.hinted(lib.typeinfos(), |told, typeinfo, _| {
+        self.hinted(lib.typeinfos(), |told, typeinfo| {
             told.typeinfo_or_refusal("typeinfos", typeinfo);
         });
     }
 
     fn funcs(&mut self, lib: &TypeLib<'a>, typeinfo: TypeInfoEntry<'a>) {
-        self.hinted(lib.funcs(&typeinfo), |told, func, _| {
-            told.own(func.as_bytes())
-        });
+        self.hinted(lib.funcs(&typeinfo), |told, func| told.own(func.as_bytes()));
     }
 
     fn vars(&mut self, lib: &TypeLib<'a>, typeinfo: TypeInfoEntry<'a>) {
-        self.hinted(lib.vars(&typeinfo), |told, var, _| told.own(var.as_bytes()));
+        self.hinted(lib.vars(&typeinfo), |told, var| told.own(var.as_bytes()));
     }
 
-    /// Parameters lie at the end of their function's record.
     fn params(&mut self, lib: &TypeLib<'a>, func: FuncRecord<'a>) {
-        let end = place_in(self.lent, func.as_bytes()) + func.as_bytes().len();
-        self.hinted(lib.params(&func), |told, param, left| {
-            let place = Place {
-                at: end - left * ParameterInfo::SIZE,
-                len: ParameterInfo::SIZE,
-            };
-            told.own(place.shown(told.lent, ParameterInfo::new, param));
-        });
+        self.hinted(lib.params(&func), |told, param| told.own(param.held()));
     }
 
     fn guids(&mut self, lib: &TypeLib<'a>) {
@@ -552,26 +524,18 @@ impl<'a> Told<'a> {
     }
 
     fn imports(&mut self, lib: &TypeLib<'a>) {
-        let mut offset = 0;
-        self.plain(lib.imports(), |told, import| {
-            told.own(import_place(lib, offset, import));
-            offset += ImpInfo::SIZE;
-        });
+        self.plain(lib.imports(), |told, import| told.own(import.held()));
     }
 
     fn imp_files(&mut self, lib: &TypeLib<'a>) {
-        self.plain(lib.imp_files(), |told, file| {
-            told.own(imp_file_place(lib, file))
-        });
+        self.plain(lib.imp_files(), |told, file| told.own(file.held()));
     }
 
     /// A chain that comes round is followed for some records only, and has no end.
     fn impl_types(&mut self, lib: &TypeLib<'a>, typeinfo: TypeInfoEntry<'a>) {
         let mut references = lib.impl_types(&typeinfo);
-        let mut offset = typeinfo.datatype1();
         for reference in references.by_ref().take(LONGEST_CHAIN) {
-            self.own(reference_place(lib, offset, reference));
-            offset = reference.onext();
+            self.own(reference.held());
         }
         if references.next().is_none() {
             self.end();
@@ -642,21 +606,6 @@ pub(crate) struct Place {
     pub len: usize,
 }
 
-impl Place {
-    /// The place of a record whose bytes the reference keeps to itself, worked out by the caller. A
-    /// record made from the bytes there must show what the record from the reference shows; their
-    /// derived `Debug` shows every byte.
-    pub fn shown<'a, R: Debug>(self, lent: &'a [u8], make: fn(&'a [u8]) -> R, yielded: R) -> Self {
-        let made = make(&lent[self.at..self.at + self.len]);
-        assert_eq!(
-            format!("{made:?}"),
-            format!("{yielded:?}"),
-            "the record lies elsewhere"
-        );
-        self
-    }
-}
-
 impl From<(usize, usize)> for Place {
     fn from((at, len): (usize, usize)) -> Self {
         Place { at, len }
@@ -667,39 +616,4 @@ impl Reply for Place {
     fn write(self, lent: &[u8], answer: &mut Vec<u8>) {
         Case(self.at, self.len).write(lent, answer);
     }
-}
-
-fn array_place<'a>(lib: &TypeLib<'a>, offset: i32, array: ArrayDesc<'a>) -> Place {
-    let place = Place {
-        at: segment_start(lib, ARRAY_DESCRIPTOR_SEGMENT) + offset as usize,
-        len: array.size(),
-    };
-    place.shown(lib.data(), ArrayDesc::new, array)
-}
-
-fn import_place<'a>(lib: &TypeLib<'a>, offset: usize, import: ImpInfo<'a>) -> Place {
-    let place = Place {
-        at: segment_start(lib, IMPORT_SEGMENT) + offset,
-        len: ImpInfo::SIZE,
-    };
-    place.shown(lib.data(), ImpInfo::new, import)
-}
-
-fn reference_place<'a>(lib: &TypeLib<'a>, offset: i32, reference: RefRecord<'a>) -> Place {
-    let place = Place {
-        at: segment_start(lib, REFERENCE_SEGMENT) + offset as usize,
-        len: RefRecord::SIZE,
-    };
-    place.shown(lib.data(), RefRecord::new, reference)
-}
-
-fn imp_file_place<'a>(lib: &TypeLib<'a>, file: ImpFile<'a>) -> Place {
-    let name = file
-        .filename_bytes()
-        .expect("an import file that was found holds its name");
-    let place = Place {
-        at: place_in(lib.data(), name) - ImpFile::HEADER_SIZE,
-        len: file.entry_size(),
-    };
-    place.shown(lib.data(), ImpFile::new, file)
 }

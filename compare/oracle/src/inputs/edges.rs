@@ -13,7 +13,18 @@ const HOSTILE: [(usize, usize); 4] = [(8_100, 32), (8_100, 33), (500, 32), (20, 
 
 /// Inputs of at most a little more than the sheet program takes.
 pub fn small() -> Vec<Input> {
+    let mut inputs = quick();
+    for (types, levels) in HOSTILE {
+        let name = format!("{types} types with trees of {levels}");
+        inputs.push(Input::new(name, large::many_descriptions(types, levels)));
+    }
+    inputs
+}
+
+/// Those of them that ask for little work.
+pub fn quick() -> Vec<Input> {
     let mut inputs = heads();
+    inputs.extend(typeinfos());
     for pointers in POINTERS {
         for (word, end) in [
             ("base", 0x8000_0003),
@@ -38,10 +49,6 @@ pub fn small() -> Vec<Input> {
             large::sheet_of(length),
         ));
         inputs.push(Input::new(format!("{length} bytes"), padded(length)));
-    }
-    for (types, levels) in HOSTILE {
-        let name = format!("{types} types with trees of {levels}");
-        inputs.push(Input::new(name, large::many_descriptions(types, levels)));
     }
     inputs
 }
@@ -78,6 +85,21 @@ pub fn large() -> Vec<Input> {
         inputs.push(Input::new(word.into(), bytes));
     }
     inputs
+}
+
+/// Libraries of one type that cannot be read: its offset is negative, there is no table, or it has
+/// a byte too few.
+fn typeinfos() -> [Input; 3] {
+    let mut negative = Layout::new(vec![-1]);
+    negative.table(layout::TYPEINFOS, large::typeinfo(0, -1, 0));
+    let mut short = Layout::new(vec![1]);
+    short.table(layout::TYPEINFOS, large::typeinfo(0, -1, 0));
+    [
+        ("a typeinfo of a negative offset", negative),
+        ("a typeinfo without a table", Layout::new(vec![0])),
+        ("a typeinfo that is a byte short", short),
+    ]
+    .map(|(word, layout)| Input::new(word.into(), layout.bytes()))
 }
 
 /// Long chains that end or come round.
@@ -168,7 +190,7 @@ pub fn alias(pointers: usize, end: u32) -> Vec<u8> {
 }
 
 /// A library without types, with bytes behind it that nothing names.
-fn padded(length: usize) -> Vec<u8> {
+pub fn padded(length: usize) -> Vec<u8> {
     let mut bytes = Layout::new(Vec::new()).bytes();
     bytes.resize(length, 0xA5);
     bytes

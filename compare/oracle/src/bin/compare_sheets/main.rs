@@ -13,18 +13,15 @@
 
 #[cfg(product)]
 mod call;
-#[cfg(product)]
-mod guarded;
 mod options;
 mod program;
 mod run;
-mod shrink;
-mod stopped;
 
 use std::fs;
 use std::path::Path;
 use std::process::ExitCode;
 
+use msft_typelib::comparing::stopped;
 use msft_typelib::inputs::{Input, Inputs, edges};
 use msft_typelib::sheet::{MOST_BYTES, sheet};
 

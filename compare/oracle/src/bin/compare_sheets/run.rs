@@ -3,16 +3,18 @@
 use std::path::Path;
 use std::process::ExitCode;
 use std::time::{Duration, Instant};
-use std::{env, fs};
 
+#[cfg(product)]
+use msft_typelib::comparing::lent::Lent;
+use msft_typelib::comparing::shrink::shrink;
+use msft_typelib::comparing::{report, stopped};
 use msft_typelib::coverage::Coverage;
 use msft_typelib::inputs::Input;
 use msft_typelib::sheet::{MOST_BYTES, PROGRAM_BYTES};
 
 #[cfg(product)]
-use crate::call::Caller;
-use crate::shrink::shrink;
-use crate::{program, stopped};
+use crate::call;
+use crate::program;
 
 /// How many differences are shown before a run is given up.
 const MOST_DIFFERENCES: usize = 5;
@@ -20,16 +22,13 @@ const MOST_DIFFERENCES: usize = 5;
 /// How long a smaller input is sought for one that differs.
 const SHRINKING: Duration = Duration::from_secs(20);
 
-/// The most bytes of a small input that are printed.
-const MOST_PRINTED: usize = 1_000;
-
 pub struct Run {
     coverage: Coverage,
     tried: u64,
     differences: usize,
     started: Instant,
     #[cfg(product)]
-    caller: Caller,
+    lent: Lent,
 }
 
 impl Run {
@@ -40,7 +39,7 @@ impl Run {
             differences: 0,
             started: Instant::now(),
             #[cfg(product)]
-            caller: Caller::new(),
+            lent: Lent::default(),
         }
     }
 
@@ -55,7 +54,7 @@ impl Run {
         self.tried += 1;
         let expected = self.coverage.sheet(&input.bytes, MOST_BYTES);
         #[cfg(product)]
-        if let Some(difference) = self.caller.difference(&input.bytes, &expected) {
+        if let Some(difference) = call::difference(&mut self.lent, &input.bytes, &expected) {
             let small = shrink(&input.bytes, SHRINKING, |bytes| self.call_differs(bytes));
             self.show(input, &difference, &small);
         }
@@ -66,7 +65,7 @@ impl Run {
     #[cfg(product)]
     fn call_differs(&mut self, bytes: &[u8]) -> bool {
         let expected = msft_typelib::sheet::sheet(bytes, MOST_BYTES);
-        self.caller.difference(bytes, &expected).is_some()
+        call::difference(&mut self.lent, bytes, &expected).is_some()
     }
 
     /// Compares what the program prints.
@@ -87,16 +86,7 @@ impl Run {
     fn show(&mut self, input: &Input, difference: &str, small: &[u8]) {
         self.differences += 1;
         println!("DIFFERENCE at {}: {difference}", input.name);
-        let file = format!("difference-{}.tlb", self.differences);
-        let path = env::temp_dir().join(file);
-        match fs::write(&path, small) {
-            Ok(()) => println!("  smaller: {} bytes, in {}", small.len(), path.display()),
-            Err(error) => println!("  smaller: {} bytes ({error})", small.len()),
-        }
-        if small.len() <= MOST_PRINTED {
-            let hex: String = small.iter().map(|byte| format!("{byte:02x}")).collect();
-            println!("  {hex}");
-        }
+        report::keep(small, self.differences);
     }
 
     /// Prints the counts. A whole run fails if something did not come up, too.

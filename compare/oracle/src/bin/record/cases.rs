@@ -4,7 +4,7 @@ use std::collections::HashSet;
 
 use msft_typelib::readings::Kind;
 
-use crate::made::{self, Record};
+use msft_typelib::inputs::records::{self, Record};
 use msft_typelib::random::Random;
 
 /// One question to all methods of a kind.
@@ -33,7 +33,7 @@ pub fn of_kind(kind: Kind, cut_out: Vec<Vec<u8>>) -> Vec<Case> {
     }
 
     let mut random = Random::new(SEED + kind as u64);
-    let mut records = made::records(kind, &mut random);
+    let mut records = records::records(kind, &mut random);
     records.extend(cut_out.into_iter().map(|bytes| Record {
         bytes,
         arg: random.below(4) as u32,

@@ -11,7 +11,6 @@ mod changed;
 mod edges;
 mod file;
 mod libraries;
-mod made;
 mod made_libraries;
 mod questions;
 mod records;

@@ -1,8 +1,7 @@
-//! Records made up for the cases: plausible ones, and ones at the edges of what the methods read.
+//! Records made up: plausible ones, and ones at the edges of what the methods read.
 
-use msft_typelib::readings::Kind;
-
-use msft_typelib::random::Random;
+use crate::random::Random;
+use crate::readings::Kind;
 
 /// A record's bytes and the index to ask it for.
 pub struct Record {
@@ -220,7 +219,7 @@ const LATER_BYTES: [u8; 12] = [
 
 /// The names above, names joined from several of them, and names of bytes that nearly make a
 /// character.
-fn names(random: &mut Random) -> Vec<Vec<u8>> {
+pub fn names(random: &mut Random) -> Vec<Vec<u8>> {
     let mut names = VALID_NAMES.map(|name| name.as_bytes().to_vec()).to_vec();
     names.extend(INVALID_NAMES.map(<[u8]>::to_vec));
     for number in 0..80 {

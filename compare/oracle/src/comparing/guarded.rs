@@ -8,7 +8,8 @@ const PAGE: usize = 4096;
 
 /// From Linux's mman.h.
 const NO_ACCESS: i32 = 0;
-const READ_AND_WRITE: i32 = 1 | 2;
+const READ: i32 = 1;
+const READ_AND_WRITE: i32 = READ | 2;
 const PRIVATE_AND_ANONYMOUS: i32 = 0x02 | 0x20;
 
 unsafe extern "C" {
@@ -20,6 +21,8 @@ unsafe extern "C" {
 pub struct Guarded {
     start: *mut u8,
     capacity: usize,
+    /// The place and the length of the bytes that are held for reading alone.
+    held: (usize, usize),
 }
 
 /// Which end of the memory the lent bytes touch.
@@ -55,18 +58,49 @@ impl Guarded {
             Guarded {
                 start: start.cast(),
                 capacity,
+                held: (0, 0),
             }
         }
     }
 
     /// This many bytes, touching the guard page at the given side.
     pub fn bytes(&mut self, length: usize, side: Side) -> &mut [u8] {
-        assert!(length <= self.capacity, "it fits");
-        let at = match side {
-            Side::Start => 0,
-            Side::End => self.capacity - length,
-        };
+        let at = self.place(length, side);
         // Inside the opened pages, and lent once while `self` is.
         unsafe { slice::from_raw_parts_mut(self.start.add(at), length) }
+    }
+
+    /// Copies the bytes in, touching the guard page at the given side. They can only be read until
+    /// others are held: a write to them stops the program.
+    pub fn hold(&mut self, bytes: &[u8], side: Side) {
+        self.allow(READ_AND_WRITE);
+        self.bytes(bytes.len(), side).copy_from_slice(bytes);
+        self.held = (self.place(bytes.len(), side), bytes.len());
+        self.allow(READ);
+    }
+
+    /// The bytes that are held.
+    pub fn held(&self) -> &[u8] {
+        let (at, length) = self.held;
+        // Inside the opened pages, which may be read.
+        unsafe { slice::from_raw_parts(self.start.add(at), length) }
+    }
+
+    fn place(&self, length: usize, side: Side) -> usize {
+        assert!(length <= self.capacity, "it fits");
+        match side {
+            Side::Start => 0,
+            Side::End => self.capacity - length,
+        }
+    }
+
+    /// Sets what may be done with the pages of the held bytes.
+    fn allow(&mut self, access: i32) {
+        let (at, length) = self.held;
+        let first = at / PAGE * PAGE;
+        let pages = (at + length).next_multiple_of(PAGE) - first;
+        // Whole pages of the mapping's inner part.
+        let done = unsafe { mprotect(self.start.add(first).cast(), pages, access) };
+        assert_eq!(done, 0, "its access can be set");
     }
 }

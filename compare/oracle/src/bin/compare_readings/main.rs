@@ -1,0 +1,34 @@
+//! Compares every export for C with the reference, reading by reading, in one process.
+//!
+//! `compare_readings [--seed S] [--cases N] [--corpus FOLDER]` tries real libraries, their beginnings,
+//! made-up records and texts, the edges, an input that is too long, and then damaged and made-up
+//! libraries until these make N cases. It ends with a failure if there was a difference, if the header
+//! declares an export that is not driven or another form of it, or if an export never answered with a
+//! value or with one of its refusals.
+
+#[cfg(product)]
+mod options;
+#[cfg(product)]
+mod plan;
+#[cfg(product)]
+mod run;
+#[cfg(product)]
+mod tally;
+
+use std::process::ExitCode;
+
+#[cfg(product)]
+fn main() -> ExitCode {
+    let Some(options) = options::Options::from_arguments() else {
+        eprintln!("{}", options::USAGE);
+        return ExitCode::FAILURE;
+    };
+    msft_typelib::comparing::stopped::watch_for_signals();
+    plan::compare(&options)
+}
+
+#[cfg(not(product))]
+fn main() -> ExitCode {
+    eprintln!("no static library was named at build time");
+    ExitCode::FAILURE
+}

@@ -1,0 +1,208 @@
+//! The cursors. The reference's iterators are made from the numbers that are handed in, damaged ones
+//! too; what a step writes are the numbers of the iterator behind its `next`.
+
+use std::collections::HashSet;
+
+use super::answer::{Answer, Row, Tell};
+use super::numbers::{Asks, Cursor, Numbers};
+use super::views::record;
+use super::{Export, Rust, export, linked};
+use crate::readings::{Kind, NOTHING, place_in};
+use crate::sheet::refusal;
+use crate::{
+    FuncIter, FuncRecord, GuidEntryIter, ImpFileIter, ImpInfoIter, ImplTypeIter, NameEntry,
+    NameIter, ParamIter, TypeInfoEntry, TypeLib, VarIter,
+};
+
+/// The segment that `impl_types` counts its offsets in.
+const REFERENCES: usize = 3;
+
+pub(super) fn exports() -> Vec<Export> {
+    let mut exports = of_library();
+    exports.extend(of_records());
+    exports.extend(block_steps());
+    exports.extend(table_steps());
+    exports.extend(other_steps());
+    exports
+}
+
+fn of_library() -> Vec<Export> {
+    vec![
+        export!(LibOut msft_guids, Asks::Nothing, Library, |lib, _| {
+            Row::new().sizes(lib.guids().numbers()).answer()
+        }),
+        export!(LibOut msft_imports, Asks::Nothing, Library, |lib, _| {
+            Row::new().sizes(lib.imports().numbers()).answer()
+        }),
+        export!(LibOut msft_imp_files, Asks::Nothing, Library, |lib, _| {
+            Row::new().sizes(lib.imp_files().numbers()).answer()
+        }),
+        export!(LibOut msft_names, Asks::Nothing, Library, |lib, _| {
+            Row::new().sizes(lib.names().numbers()).answer()
+        }),
+        export!(LibOut msft_typeinfos, Asks::Nothing, Library, |lib, _| {
+            Row::new().sizes([lib.typeinfos().number()]).answer()
+        }),
+    ]
+}
+
+fn of_records() -> Vec<Export> {
+    vec![
+        export!(TwoOut msft_funcs, Asks::Record(Kind::TypeInfo), Library, |lib, numbers| {
+            let typeinfo = record(lib, Kind::TypeInfo, numbers).map(TypeInfoEntry::new);
+            let funcs = typeinfo.map(|typeinfo| lib.funcs(&typeinfo).numbers());
+            funcs.map(|numbers| Row::new().sizes(numbers)).tell(lib.data())
+        }),
+        export!(TwoOut msft_vars, Asks::Record(Kind::TypeInfo), Library, |lib, numbers| {
+            let typeinfo = record(lib, Kind::TypeInfo, numbers).map(TypeInfoEntry::new);
+            let vars = typeinfo.map(|typeinfo| lib.vars(&typeinfo).numbers());
+            vars.map(|numbers| Row::new().sizes(numbers)).tell(lib.data())
+        }),
+        export!(TwoOut msft_params, Asks::Record(Kind::Func), Library, |lib, numbers| {
+            let func = record(lib, Kind::Func, numbers).map(FuncRecord::new);
+            func.map_or(Answer::Refused(NOTHING), |func| params(lib, &lib.params(&func)))
+        }),
+        export!(TwoOut msft_impl_types, Asks::Record(Kind::TypeInfo), Library, |lib, numbers| {
+            let typeinfo = record(lib, Kind::TypeInfo, numbers).map(TypeInfoEntry::new);
+            // The reference keeps the table's beginning; the cursor has its length beside it.
+            let (_, len) = lib.segment(REFERENCES).unwrap_or((0, 0));
+            let chain = typeinfo.map(|typeinfo| lib.impl_types(&typeinfo));
+            chain.map(|chain| chain_row(Row::new(), &chain, len)).tell(lib.data())
+        }),
+    ]
+}
+
+/// A cursor over parameters. Where there are none the reference reads an empty slice that is no part
+/// of the lent bytes and has no place in them: only that nothing is left can be compared.
+fn params(lib: &TypeLib, params: &ParamIter) -> Answer {
+    match param_numbers(lib, params) {
+        Some(numbers) => Row::new().sizes(numbers).answer(),
+        None => Answer::Ended(vec![0; size_of::<Numbers>()]),
+    }
+}
+
+/// The numbers of a cursor over parameters: the reference's place and end in the function's record,
+/// counted in the lent bytes; nothing where it reads no record.
+pub(super) fn param_numbers(lib: &TypeLib, params: &ParamIter) -> Option<Numbers> {
+    let (record, pos, remaining) = params.held();
+    let at = (!record.is_empty()).then(|| place_in(lib.data(), record))?;
+    Some([at + pos, at + record.len(), remaining])
+}
+
+/// A chain's cursor: the table, and the next offset in four bytes.
+fn chain_row(row: Row, chain: &ImplTypeIter, len: usize) -> Row {
+    let (at, next) = chain.numbers();
+    row.sizes([at, len]).le(next.to_le_bytes())
+}
+
+/// What a step writes: the record's place, and the numbers of the cursor behind it.
+fn step<const N: usize>(lib: &TypeLib, record: Option<&[u8]>, numbers: [usize; N]) -> Answer {
+    let row = record.map(|bytes| Row::new().place(lib.data(), bytes).sizes(numbers));
+    row.tell(lib.data())
+}
+
+fn block_steps() -> Vec<Export> {
+    vec![
+        export!(ThreeOut msft_func_step, Asks::Cursor(Cursor::Funcs), Library, |lib, [pos, end, left]| {
+            let mut funcs = FuncIter::new(lib.data(), pos, end, left);
+            let func = funcs.next().map(|func| func.as_bytes());
+            step(lib, func, funcs.numbers())
+        }),
+        export!(ThreeOut msft_var_step, Asks::Cursor(Cursor::Vars), Library, |lib, [pos, end, left]| {
+            let mut vars = VarIter::new(lib.data(), pos, end, left);
+            let var = vars.next().map(|var| var.as_bytes());
+            step(lib, var, vars.numbers())
+        }),
+        // The reference's iterator holds the record, which here ends at `end`. An end past the lent
+        // bytes, which it cannot hold, is cut to theirs: no call looks outside them.
+        export!(ThreeOut msft_param_step, Asks::Cursor(Cursor::Params), Library, |lib, [pos, end, left]| {
+            let lent = &lib.data()[..end.min(lib.data().len())];
+            let mut params = ParamIter::new(lent, pos, left);
+            let param = params.next().map(|param| param.held());
+            let (_, pos, left) = params.held();
+            step(lib, param, [pos, end, left])
+        }),
+    ]
+}
+
+fn table_steps() -> Vec<Export> {
+    vec![
+        export!(TwoOut msft_guid_step, Asks::Cursor(Cursor::Guids), Library, |lib, [pos, end, _]| {
+            let mut guids = GuidEntryIter::new(lib.data(), pos, end);
+            // The entry begins with its GUID, and the cursor then stands at the entry's end.
+            let at = guids.next().map(|entry| place_in(lib.data(), entry.guid().as_bytes()));
+            let entry = at.map(|at| &lib.data()[at..guids.numbers()[0]]);
+            step(lib, entry, guids.numbers())
+        }),
+        export!(TwoOut msft_import_step, Asks::Cursor(Cursor::Imports), Library, |lib, [pos, end, _]| {
+            let mut imports = ImpInfoIter::new(lib.data(), pos, end);
+            let import = imports.next().map(|import| import.held());
+            step(lib, import, imports.numbers())
+        }),
+        export!(TwoOut msft_imp_file_step, Asks::Cursor(Cursor::ImportFiles), Library, |lib, [pos, end, _]| {
+            let mut files = ImpFileIter::new(lib.data(), pos, end);
+            let file = files.next().map(|file| file.held());
+            step(lib, file, files.numbers())
+        }),
+    ]
+}
+
+fn other_steps() -> Vec<Export> {
+    vec![
+        export!(ThreeOut msft_name_step, Asks::Cursor(Cursor::Names), Library, |lib, [pos, end, start]| {
+            let mut names = NameIter::new(lib.data(), pos, end, start);
+            let entry = names.next().map(|entry| name_row(lib, &entry));
+            entry.map(|row| row.sizes(names.numbers())).tell(lib.data())
+        }),
+        export!(OneOut msft_typeinfo_step, Asks::Type, Library, typeinfo_step),
+        export!(OneOut msft_typeinfo_size_hint, Asks::Type, Library, |lib, [index, ..]| {
+            let mut typeinfos = lib.typeinfos();
+            typeinfos.by_ref().take(index).for_each(drop);
+            typeinfos.size_hint().0.tell(lib.data())
+        }),
+        export!(ChainOut msft_impl_type_step, Asks::Cursor(Cursor::Chain), Library, |lib, [at, len, next]| {
+            let mut chain = ImplTypeIter::new(lib.data(), at, next as i32);
+            let reference = chain.next().map(|reference| reference.held());
+            let row = reference.map(|bytes| Row::new().place(lib.data(), bytes));
+            row.map(|row| chain_row(row, &chain, len)).tell(lib.data())
+        }),
+        export!(ChainOut msft_walk, Asks::Cursor(Cursor::Chain), Library, walk),
+    ]
+}
+
+/// A name's entry: its offset, the place of its text, and its numbers.
+fn name_row(lib: &TypeLib, entry: &NameEntry) -> Row {
+    Row::new()
+        .sizes([entry.offset()])
+        .place(lib.data(), entry.name().as_bytes())
+        .le(entry.hreftype().to_le_bytes())
+        .le(entry.next_hash().to_le_bytes())
+        .le([entry.name_flags()])
+        .le(entry.hashcode().to_le_bytes())
+}
+
+/// The typeinfo at the cursor. The reference's iterator begins at the first, so it is led there.
+fn typeinfo_step(lib: &TypeLib, [index, ..]: Numbers) -> Answer {
+    let mut typeinfos = lib.typeinfos();
+    match typeinfos.nth(index) {
+        None => Answer::Refused(NOTHING),
+        Some(Err(error)) => Err::<TypeInfoEntry, _>(error).tell(lib.data()),
+        Some(Ok(typeinfo)) => step(lib, Some(typeinfo.as_bytes()), [typeinfos.number()]),
+    }
+}
+
+/// How many records the chain has, or 10 where it returns to an offset already passed: document 01's
+/// definition, for the reference has no such reading.
+fn walk(lib: &TypeLib, [at, _, next]: Numbers) -> Answer {
+    let mut chain = ImplTypeIter::new(lib.data(), at, next as i32);
+    let mut passed = HashSet::new();
+    loop {
+        let (_, offset) = chain.numbers();
+        if chain.next().is_none() {
+            return passed.len().tell(lib.data());
+        }
+        if !passed.insert(offset) {
+            return Answer::Refused(refusal::CIRCLE);
+        }
+    }
+}
