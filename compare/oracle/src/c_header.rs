@@ -15,6 +15,19 @@ pub struct Declared {
     pub types: Vec<String>,
     /// The refusals that its comment names.
     pub refusals: BTreeSet<u8>,
+    /// How many bytes the comment says that it writes.
+    pub lengths: Lengths,
+}
+
+/// The lengths of what an export writes.
+#[derive(Clone, Debug, PartialEq, Eq)]
+pub enum Lengths {
+    /// None is said.
+    Any,
+    /// Just these.
+    These(BTreeSet<usize>),
+    /// From the first, if it is said, to the last.
+    Range(Option<usize>, usize),
 }
 
 /// Every export that the header declares.
@@ -45,6 +58,7 @@ fn declaration(header: &str, at: usize) -> Declared {
             .map(parameter_type)
             .collect(),
         refusals: refusals(comment),
+        lengths: lengths(comment),
     }
 }
 
@@ -53,6 +67,24 @@ fn parameter_type(parameter: &str) -> String {
     let parameter = parameter.trim();
     let name = parameter.rfind([' ', '*']).map_or(0, |at| at + 1);
     parameter[..name].trim_end().into()
+}
+
+/// The lengths in what the comment says is written, such as `(16 bytes)`, `(3, 5 or 17 bytes)`,
+/// `(2 to 19 bytes)` or `(at most 12 bytes)`.
+fn lengths(comment: &str) -> Lengths {
+    let said = comment.rfind("Writes").map(|at| &comment[at..]);
+    let said = said.and_then(|said| said.split_once('('));
+    let Some((said, _)) = said.and_then(|(_, said)| said.split_once("bytes)")) else {
+        return Lengths::Any;
+    };
+    let numbers = said.split(|letter: char| !letter.is_ascii_digit());
+    let numbers: BTreeSet<usize> = numbers.filter_map(|number| number.parse().ok()).collect();
+    let last = *numbers.last().expect("a length is a number");
+    match (said.contains("at most"), said.contains("to")) {
+        (true, _) => Lengths::Range(None, last),
+        (_, true) => Lengths::Range(numbers.first().copied(), last),
+        _ => Lengths::These(numbers),
+    }
 }
 
 /// The numbers behind what the comment says is replied or written, such as `-9, -12` or `-1 to -5`.
@@ -81,7 +113,7 @@ fn refusals(comment: &str) -> BTreeSet<u8> {
 
 #[cfg(test)]
 mod tests {
-    use super::{declared, declared_in};
+    use super::{Lengths, declared, declared_in, lengths};
 
     #[test]
     fn a_declaration_is_taken_apart() {
@@ -93,6 +125,25 @@ mod tests {
         assert_eq!(export.name, "msft_x");
         assert_eq!(export.types, ["const uint8_t *", "size_t", "int32_t"]);
         assert!(export.refusals.iter().eq(&[6, 7, 8, 12]));
+        assert_eq!(export.lengths, Lengths::These([16].into()));
+    }
+
+    #[test]
+    fn lengths_are_lists_or_ranges() {
+        let these = |lengths: &[usize]| Lengths::These(lengths.iter().copied().collect());
+        assert_eq!(
+            lengths("Writes a row (3, 5 or 17\n   bytes); -9."),
+            these(&[3, 5, 17])
+        );
+        assert_eq!(
+            lengths("Writes (2 to 19 bytes)"),
+            Lengths::Range(Some(2), 19)
+        );
+        assert_eq!(
+            lengths("Writes (at most 12 bytes)"),
+            Lengths::Range(None, 12)
+        );
+        assert_eq!(lengths("Replies a u32; -9."), Lengths::Any);
     }
 
     #[test]

@@ -11,11 +11,18 @@ const REFERENCE_CODES: u8 = 3;
 const KINDS: u8 = 16;
 
 /// The constant codes that an inline constant can give.
-const INLINE_CODES: [u16; 14] = [0, 1, 2, 3, 10, 11, 16, 17, 18, 19, 22, 23, 24, 25];
+pub const INLINE_CODES: [u16; 14] = [0, 1, 2, 3, 10, 11, 16, 17, 18, 19, 22, 23, 24, 25];
 
-/// Codes of stored constants that have cases of their own, and above them the file time.
+/// Below this are the codes of stored constants with cases of their own, and above it the file time.
 const STORED_CODES: u16 = 26;
 const FILE_TIME: u16 = 64;
+
+/// The codes of stored constants that have cases of their own.
+pub fn stored_codes() -> impl Iterator<Item = u16> {
+    (0..STORED_CODES)
+        .filter(|code| ![9, 12, 13, 15].contains(code))
+        .chain([FILE_TIME])
+}
 
 /// The fields that may hold nothing.
 const OPTIONAL: [&str; 6] = ["GUID", "name", "memid", "constant", "import file", "text"];
@@ -64,15 +71,12 @@ impl Coverage {
     /// What document 01 names and the run did not reach.
     pub fn missing(&self) -> Vec<String> {
         let parts = &self.made_of;
-        let own_codes = (0..STORED_CODES)
-            .filter(|code| ![9, 12, 13, 15].contains(code))
-            .chain([FILE_TIME]);
         let mut missing = not_in("refusal", refusal::ALL, &self.refusals);
         missing.extend(not_in("tree", 0..TREE_CODES, &parts.trees));
         missing.extend(not_in("reference", 0..REFERENCE_CODES, &parts.references));
         missing.extend(not_in("kind", 0..KINDS, &parts.kinds));
         missing.extend(not_in("inline constant", INLINE_CODES, &parts.inline));
-        missing.extend(not_in("stored constant", own_codes, &parts.stored));
+        missing.extend(not_in("stored constant", stored_codes(), &parts.stored));
         missing.extend(not_in("a", OPTIONAL, &parts.there));
         missing.extend(not_in("no", OPTIONAL, &parts.not_there));
         if parts.stored_raw.is_empty() {

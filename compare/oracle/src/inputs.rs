@@ -1,6 +1,7 @@
 //! Inputs for comparing: real libraries, their beginnings, damaged ones, made-up ones, and
 //! the edges of document 01. Each has a number, and the same seed always gives the same inputs.
 
+pub mod constants;
 pub mod damage;
 pub mod edges;
 pub mod large;
@@ -40,6 +41,12 @@ impl Input {
     pub fn new(name: String, bytes: Vec<u8>) -> Self {
         Input { name, bytes }
     }
+
+    /// The first so many bytes of it.
+    pub fn beginning(&self, length: usize) -> Self {
+        let name = format!("{length} bytes of {}", self.name);
+        Input::new(name, self.bytes[..length].to_vec())
+    }
 }
 
 /// The real libraries, and what is made from them.
@@ -75,8 +82,8 @@ impl Inputs {
         self.corpus.iter().map(whole)
     }
 
-    /// Every beginning of three real libraries and of a made-up one.
-    pub fn beginnings(&self) -> impl Iterator<Item = Input> + '_ {
+    /// Three real libraries and a made-up one, of which every beginning is tried.
+    pub fn cut_everywhere(&self) -> Vec<Input> {
         let mut chosen: Vec<Input> = self
             .corpus()
             .filter(|input| CUT_EVERYWHERE.contains(&input.name.as_str()))
@@ -85,12 +92,13 @@ impl Inputs {
             chosen = self.corpus().take(CUT_EVERYWHERE.len()).collect();
         }
         chosen.push(self.rich());
-        chosen.into_iter().flat_map(|whole| {
-            (0..whole.bytes.len()).map(move |length| {
-                let name = format!("{length} bytes of {}", whole.name);
-                Input::new(name, whole.bytes[..length].to_vec())
-            })
-        })
+        chosen
+    }
+
+    /// Every beginning of them.
+    pub fn beginnings(&self) -> impl Iterator<Item = Input> + '_ {
+        let chosen = self.cut_everywhere().into_iter();
+        chosen.flat_map(|whole| (0..whole.bytes.len()).map(move |length| whole.beginning(length)))
     }
 
     /// The made-up library with the longest sheet among the first few.

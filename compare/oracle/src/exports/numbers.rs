@@ -96,9 +96,10 @@ pub struct Pool {
 }
 
 impl Pool {
-    pub fn new(input: &Parsed) -> Self {
+    pub fn new(bytes: &[u8]) -> Self {
+        let input = Parsed::new(bytes);
         let mut pool = Pool {
-            length: input.bytes.len(),
+            length: bytes.len(),
             segments: vec![(0, 0); SEGMENTS],
             real: HashMap::new(),
         };
@@ -125,8 +126,17 @@ impl Pool {
         all
     }
 
+    /// So many sets of numbers. Where there are no numbers, one is all there is.
+    pub fn drawn(&self, count: usize, asks: Asks, random: &mut Random) -> Vec<Numbers> {
+        let count = match asks {
+            Asks::Nothing => 1,
+            _ => count,
+        };
+        (0..count).map(|_| self.draw(asks, random)).collect()
+    }
+
     /// A set of numbers: a real one, one of which a number is changed, or a hostile one.
-    pub fn draw(&self, asks: Asks, random: &mut Random) -> Numbers {
+    fn draw(&self, asks: Asks, random: &mut Random) -> Numbers {
         let real = self.real.get(&asks).filter(|real| !real.is_empty());
         let choice = random.below(100);
         let Some(real) = real.filter(|_| choice < REAL + CHANGED) else {

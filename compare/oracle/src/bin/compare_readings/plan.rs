@@ -1,10 +1,10 @@
-//! The inputs of a run, in their order.
+//! The inputs of a run, in their order, and the numbers that each is asked with.
 
 use std::process::ExitCode;
 
-use msft_typelib::exports::numbers::Asks;
+use msft_typelib::exports::numbers::{Asks, Pool, Words};
 use msft_typelib::inputs::layout::Layout;
-use msft_typelib::inputs::{Input, Inputs, edges, large, records, texts};
+use msft_typelib::inputs::{Input, Inputs, constants, edges, large, records, texts};
 use msft_typelib::random::Random;
 use msft_typelib::readings::Kind;
 use msft_typelib::sheet::{MOST_BYTES, MOST_TYPES};
@@ -13,10 +13,13 @@ use crate::options::Options;
 use crate::run::Run;
 
 /// How many sets of numbers each export is asked with: about a real library, beside every set that
-/// the library itself names; about a numbered input or an edge; and about any other.
+/// the library itself names; about an edge or a numbered input; and about any other.
 const ABOUT_REAL: usize = 100;
 const ABOUT_NUMBERED: usize = 4;
 const ABOUT_OTHER: usize = 1;
+
+/// How many places around a made-up record are asked for.
+const AROUND_RECORD: usize = 3;
 
 /// The lengths of inputs that are noise.
 const NOISE: usize = 400;
@@ -36,30 +39,52 @@ pub fn compare(options: &Options) -> ExitCode {
     if !run.drives_what_is_declared() {
         return ExitCode::FAILURE;
     }
-    run.without_library();
+    without_library(&mut run);
     for input in inputs.corpus() {
-        run.every(&input, ABOUT_REAL);
+        every(&mut run, &input, ABOUT_REAL);
     }
-    for input in edges() {
-        run.every(&input, ABOUT_NUMBERED);
+    for input in edges::quick() {
+        every(&mut run, &input, ABOUT_NUMBERED);
+    }
+    for input in texts::libraries(&mut inputs.random(FOR_TEXTS)) {
+        every(&mut run, &input, ABOUT_OTHER);
     }
     made_records(&mut run, &mut inputs.random(FOR_RECORDS));
-    for input in texts::libraries(&mut inputs.random(FOR_TEXTS)) {
-        run.every(&input, ABOUT_OTHER);
-    }
-    for input in inputs.beginnings().chain(noise(inputs.random(FOR_NOISE))) {
-        run.drawn(&input, ABOUT_OTHER);
+    stored_constants(&mut run);
+    beginnings(&mut run, &inputs);
+    for input in noise(inputs.random(FOR_NOISE)).chain(long()) {
+        drawn(&mut run, &input, ABOUT_NUMBERED);
     }
     numbered(&mut run, &inputs, options.cases);
     run.end()
 }
 
-/// Document 01's edges, and inputs as long as they may be, longer, and with too many types.
-fn edges() -> impl Iterator<Item = Input> {
-    let long = [MOST_BYTES, MOST_BYTES + 1]
-        .map(|length| Input::new(format!("{length} bytes"), edges::padded(length)));
-    let types = Input::new("too many types".into(), large::many_types(MOST_TYPES + 1));
-    edges::quick().into_iter().chain(long).chain([types])
+/// Asks the exports that take no library with every number that they can take.
+fn without_library(run: &mut Run) {
+    run.ask(&Input::new("no library".into(), Vec::new()), |asks, _| {
+        let count = match asks {
+            Asks::RawKind => 1 << u8::BITS,
+            Asks::Code => 1 << u16::BITS,
+            _ => 0,
+        };
+        (0..count).map(|number| [number, 0, 0]).collect()
+    });
+}
+
+/// Asks with every set of numbers that the input names itself, and with so many drawn ones.
+fn every(run: &mut Run, input: &Input, count: usize) {
+    let pool = Pool::new(&input.bytes);
+    run.ask(input, |asks, random| {
+        let mut all = pool.every(asks, random);
+        all.extend(pool.drawn(count, asks, random));
+        all
+    });
+}
+
+/// Asks with so many drawn sets of numbers.
+fn drawn(run: &mut Run, input: &Input, count: usize) {
+    let pool = Pool::new(&input.bytes);
+    run.ask(input, |asks, random| pool.drawn(count, asks, random));
 }
 
 /// Made-up records, each at the very end of a library without tables, asked for what its kind has:
@@ -68,10 +93,45 @@ fn made_records(run: &mut Run, random: &mut Random) {
     let head = Layout::new(Vec::new()).bytes();
     for kind in Kind::ALL.into_iter().filter(|kind| kind.is_record()) {
         for record in records::records(kind, random) {
-            let numbers = [head.len(), record.bytes.len(), record.arg as usize];
+            let whole = [head.len(), record.bytes.len(), record.arg as usize];
             let bytes = [&head[..], &record.bytes].concat();
+            let pool = Pool::new(&bytes);
             let input = Input::new(format!("a made-up {}", kind.name()), bytes);
-            run.asked(&input, Asks::Record(kind), numbers);
+            run.ask(&input, |asks, random| {
+                if asks != Asks::Record(kind) {
+                    return Vec::new();
+                }
+                let mut all = pool.drawn(AROUND_RECORD, asks, random);
+                all.push(whole);
+                all
+            });
+        }
+    }
+}
+
+/// Stored constants of every code, whole and cut.
+fn stored_constants(run: &mut Run) {
+    for input in constants::libraries() {
+        run.ask(&input, |asks, _| match asks {
+            Asks::Word(Words::Constant) => vec![[0; 3]],
+            _ => Vec::new(),
+        });
+    }
+}
+
+/// Every beginning of a few libraries, asked with numbers that it names itself and with numbers that
+/// the whole library names.
+fn beginnings(run: &mut Run, inputs: &Inputs) {
+    for whole in inputs.cut_everywhere() {
+        let of_whole = Pool::new(&whole.bytes);
+        for length in 0..whole.bytes.len() {
+            let input = whole.beginning(length);
+            let pool = Pool::new(&input.bytes);
+            run.ask(&input, |asks, random| {
+                let mut all = pool.drawn(ABOUT_OTHER, asks, random);
+                all.extend(of_whole.drawn(ABOUT_OTHER, asks, random));
+                all
+            });
         }
     }
 }
@@ -87,6 +147,15 @@ fn noise(mut random: Random) -> impl Iterator<Item = Input> {
     })
 }
 
+/// Inputs as long as they may be, longer, and with too many types. The longer one could be read; it
+/// is document 01 that has every export refuse it.
+fn long() -> impl Iterator<Item = Input> {
+    let types = Input::new("too many types".into(), large::many_types(MOST_TYPES + 1));
+    let padded = [MOST_BYTES, MOST_BYTES + 1]
+        .map(|length| Input::new(format!("{length} bytes"), edges::padded(length)));
+    padded.into_iter().chain([types])
+}
+
 /// Damaged and made-up libraries, until these make so many cases.
 fn numbered(run: &mut Run, inputs: &Inputs, cases: u64) {
     let before = run.cases();
@@ -94,7 +163,7 @@ fn numbered(run: &mut Run, inputs: &Inputs, cases: u64) {
     while run.cases() - before < cases && !run.is_hopeless() {
         let input = inputs.input(number);
         let name = format!("input {number} ({})", input.name);
-        run.drawn(&Input::new(name, input.bytes), ABOUT_NUMBERED);
+        drawn(run, &Input::new(name, input.bytes), ABOUT_NUMBERED);
         number += 1;
     }
 }

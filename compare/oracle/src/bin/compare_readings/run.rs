@@ -10,13 +10,13 @@ use msft_typelib::comparing::lent::{Lent, Written};
 use msft_typelib::comparing::shrink::shrink;
 use msft_typelib::comparing::{report, stopped};
 use msft_typelib::exports::answer::Answer;
-use msft_typelib::exports::numbers::{Asks, Numbers, Pool};
+use msft_typelib::exports::numbers::{Asks, Numbers};
 use msft_typelib::exports::{self, Export, Parsed};
 use msft_typelib::inputs::Input;
 use msft_typelib::random::Random;
 use msft_typelib::sheet::{MOST_BYTES, refusal};
 
-use crate::tally::Tally;
+use crate::tally::{self, Tally};
 
 /// How many exports may differ before a run is given up.
 const MOST_DIFFERENCES: usize = 12;
@@ -30,15 +30,17 @@ const ROOM_FOR_REFUSED: usize = 64;
 /// The bytes of a cursor's last number.
 const LAST_NUMBER: usize = 8;
 
-/// How many places around a made-up record are asked for.
-const AROUND_RECORD: usize = 3;
+/// An export and what was counted of it.
+struct Driven {
+    export: Export,
+    tally: Tally,
+    differs: bool,
+}
 
 pub struct Run {
-    exports: Vec<Export>,
+    driven: Vec<Driven>,
     declared: Vec<Declared>,
-    tally: Tally,
     inputs: u64,
-    differing: BTreeSet<&'static str>,
     random: Random,
     lent: Lent,
     started: Instant,
@@ -46,14 +48,16 @@ pub struct Run {
 
 impl Run {
     pub fn new(seed: u64) -> Self {
-        let exports = exports::all();
         let declared = c_header::declared();
+        let driven = |export| Driven {
+            tally: Tally::new(&export, &declared),
+            export,
+            differs: false,
+        };
         Run {
-            tally: Tally::new(&exports, &declared),
-            exports,
+            driven: exports::all().into_iter().map(driven).collect(),
             declared,
             inputs: 0,
-            differing: BTreeSet::new(),
             random: Random::new(seed),
             lent: Lent::default(),
             started: Instant::now(),
@@ -61,136 +65,83 @@ impl Run {
     }
 
     pub fn cases(&self) -> u64 {
-        self.tally.cases()
+        self.driven.iter().map(|driven| driven.tally.cases()).sum()
+    }
+
+    fn differing(&self) -> usize {
+        self.driven.iter().filter(|driven| driven.differs).count()
     }
 
     /// Whether so much differs that more would say nothing new.
     pub fn is_hopeless(&self) -> bool {
-        self.differing.len() >= MOST_DIFFERENCES
+        self.differing() >= MOST_DIFFERENCES
     }
 
     /// Whether the exports that are driven are just those that the header declares, with the
     /// parameters that it gives them; says which are not.
     pub fn drives_what_is_declared(&self) -> bool {
-        let forms =
-            |export: &Export| format!("{}({})", export.name, export.call.c_types().join(", "));
-        let declared = |export: &Declared| format!("{}({})", export.name, export.types.join(", "));
-        let driven: BTreeSet<String> = self.exports.iter().map(forms).collect();
-        let declared: BTreeSet<String> = self.declared.iter().map(declared).collect();
+        let form = |name: &str, types: String| format!("{name}({types})");
+        let exports = self.driven.iter().map(|driven| &driven.export);
+        let driven: BTreeSet<String> = exports
+            .map(|export| form(export.name, export.call.c_types().join(", ")))
+            .collect();
+        let declared = self.declared.iter();
+        let declared: BTreeSet<String> = declared
+            .map(|export| form(&export.name, export.types.join(", ")))
+            .collect();
         for form in declared.difference(&driven) {
             println!("declared but not driven: {form}");
         }
         for form in driven.difference(&declared) {
             println!("driven but not declared: {form}");
         }
-        driven == declared && self.exports.len() == driven.len()
+        driven == declared && driven.len() == self.driven.len()
     }
 
-    /// Asks the exports that take no library with every number that they can take.
-    pub fn without_library(&mut self) {
-        let nothing = Input::new("no library".into(), Vec::new());
-        self.each(&nothing, |run, input| {
-            for at in 0..run.exports.len() {
-                let count = match run.exports[at].asks {
-                    Asks::RawKind => 1 << u8::BITS,
-                    Asks::Code => 1 << u16::BITS,
-                    _ => 0,
-                };
-                for number in 0..count {
-                    run.case(at, input, [number, 0, 0]);
-                }
-            }
-        });
-    }
-
-    /// Asks every export about the input with every set of numbers that it names itself, and some
-    /// drawn ones.
-    pub fn every(&mut self, input: &Input, drawn: usize) {
-        self.each(input, |run, parsed| {
-            let pool = Pool::new(parsed);
-            for at in 0..run.exports.len() {
-                for numbers in pool.every(run.exports[at].asks, &mut run.random) {
-                    run.case(at, parsed, numbers);
-                }
-                run.draw(at, parsed, &pool, drawn);
-            }
-        });
-    }
-
-    /// Asks every export about the input with so many sets of numbers.
-    pub fn drawn(&mut self, input: &Input, drawn: usize) {
-        self.each(input, |run, parsed| {
-            let pool = Pool::new(parsed);
-            for at in 0..run.exports.len() {
-                run.draw(at, parsed, &pool, drawn);
-            }
-        });
-    }
-
-    /// Asks the exports whose numbers mean this with these numbers, and at places around.
-    pub fn asked(&mut self, input: &Input, asks: Asks, numbers: Numbers) {
-        self.each(input, |run, parsed| {
-            let pool = Pool::new(parsed);
-            for at in 0..run.exports.len() {
-                if run.exports[at].asks == asks {
-                    run.case(at, parsed, numbers);
-                    run.draw(at, parsed, &pool, AROUND_RECORD);
-                }
-            }
-        });
-    }
-
-    /// Lends the input to the product and has it asked about. Most inputs touch the guard page behind
-    /// them, some the one before.
-    fn each(&mut self, input: &Input, ask: impl FnOnce(&mut Self, &Parsed)) {
+    /// Lends the input to the product, and asks each export about it with the numbers that are given
+    /// for what its own mean. Most inputs touch the guard page behind them, some the one before.
+    pub fn ask(&mut self, input: &Input, numbers: impl Fn(Asks, &mut Random) -> Vec<Numbers>) {
         if self.is_hopeless() {
             return;
         }
-        stopped::trying(&input.name);
         self.inputs += 1;
         let side = match self.inputs % 4 {
             0 => Side::Start,
             _ => Side::End,
         };
         self.lent.hold(&input.bytes, side);
-        let before = self.differing.len();
-        ask(self, &Parsed::new(&input.bytes));
-        if self.differing.len() > before {
-            println!("  at {}", input.name);
-        }
-    }
-
-    /// Without numbers, one case is all there is.
-    fn draw(&mut self, at: usize, input: &Parsed, pool: &Pool, drawn: usize) {
-        let asks = self.exports[at].asks;
-        let count = match asks {
-            Asks::Nothing => 1,
-            _ => drawn,
-        };
-        for _ in 0..count {
-            let numbers = pool.draw(asks, &mut self.random);
-            self.case(at, input, numbers);
+        let parsed = Parsed::new(&input.bytes);
+        for at in 0..self.driven.len() {
+            let export = &self.driven[at].export;
+            let asked = numbers(export.asks, &mut self.random);
+            stopped::trying(&format!("{}, {}", export.name, input.name));
+            for numbers in asked {
+                self.case(at, &parsed, numbers, &input.name);
+            }
         }
     }
 
     /// Compares one answer of the export with this number. An export that differs is shown once.
-    fn case(&mut self, at: usize, input: &Parsed, numbers: Numbers) {
-        let export = &self.exports[at];
-        if self.differing.contains(export.name) {
+    fn case(&mut self, at: usize, input: &Parsed, numbers: Numbers, name: &str) {
+        let Driven {
+            export,
+            tally,
+            differs,
+        } = &mut self.driven[at];
+        if *differs {
             return;
         }
         let expected = export.expected(input, numbers);
-        self.tally.add(export, &expected);
+        tally.add(numbers, &expected);
         if let Some(wrong) = difference(&mut self.lent, export, numbers, &expected) {
-            println!("DIFFERENCE: {} {numbers:x?}: {wrong}", export.name);
-            self.differing.insert(export.name);
-            show_smaller(
-                &mut self.lent,
-                export,
-                numbers,
-                input.bytes,
-                self.differing.len(),
+            *differs = true;
+            println!(
+                "DIFFERENCE: {} {numbers:x?} at {name}: {wrong}",
+                export.name
             );
+            let count = self.differing();
+            let export = &self.driven[at].export;
+            show_smaller(&mut self.lent, export, numbers, input.bytes, count);
             self.lent.hold(input.bytes, Side::End);
         }
     }
@@ -198,20 +149,25 @@ impl Run {
     /// Prints the counts.
     pub fn end(self) -> ExitCode {
         stopped::done();
-        println!("{}", self.tally);
+        println!("{}", tally::titles());
+        for driven in &self.driven {
+            println!("{}", driven.tally);
+        }
         let seconds = self.started.elapsed().as_secs_f64();
+        let calls: u64 = self.driven.iter().map(|driven| driven.tally.calls()).sum();
         println!(
-            "{} exports, {} inputs, {} cases in {seconds:.1} s",
-            self.exports.len(),
+            "{} exports, {} inputs, {} cases, {calls} calls in {seconds:.1} s",
+            self.driven.len(),
             self.inputs,
             self.cases()
         );
-        let faults = self.tally.faults();
+        let tallies = self.driven.iter().map(|driven| &driven.tally);
+        let faults: Vec<String> = tallies.flat_map(Tally::faults).collect();
         for fault in &faults {
-            println!("did not come up as it should: {fault}");
+            println!("not covered as it should be: {fault}");
         }
-        println!("exports that differ: {}", self.differing.len());
-        match self.differing.is_empty() && faults.is_empty() {
+        println!("exports that differ: {}", self.differing());
+        match self.differing() == 0 && faults.is_empty() {
             true => ExitCode::SUCCESS,
             false => ExitCode::FAILURE,
         }

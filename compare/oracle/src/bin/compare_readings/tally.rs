@@ -1,13 +1,15 @@
 //! How often each export was asked and how it should answer: a comparison says nothing about an
 //! answer that never came up.
 
-use std::collections::{BTreeMap, BTreeSet};
+use std::collections::BTreeSet;
 use std::fmt::{self, Display};
 
-use msft_typelib::c_header::Declared;
+use msft_typelib::c_header::{Declared, Lengths};
+use msft_typelib::coverage::{INLINE_CODES, stored_codes};
 use msft_typelib::exports::Export;
 use msft_typelib::exports::answer::Answer;
 use msft_typelib::exports::call::Call;
+use msft_typelib::exports::numbers::Numbers;
 use msft_typelib::readings::NOTHING;
 use msft_typelib::sheet::refusal;
 
@@ -17,82 +19,120 @@ const NO_LIBRARY: [u8; 5] = [1, 2, 3, 4, 5];
 /// The highest number of a refusal.
 const LAST: usize = 13;
 
-/// How often an output that is too short is tried for each row: a byte short, and empty.
+/// How often an export with an output is called in a case, and in how many of these the output is too
+/// short for a row: one a byte short, and an empty one.
+const CALLS: u64 = 4;
 const TOO_SHORT: u64 = 2;
 
+/// The export whose rows begin with a constant's code.
+const CONSTANTS: &str = "msft_const_value";
+
 /// The counts of one export.
-struct Counts {
+pub struct Tally {
+    name: &'static str,
+    has_output: bool,
+    /// The refusals and the lengths of rows that it should come to.
+    wanted: BTreeSet<u8>,
+    wanted_lengths: Lengths,
     cases: u64,
     values: u64,
     refused: [u64; LAST + 1],
-    /// The refusals that it should come to.
-    wanted: BTreeSet<u8>,
+    lengths: BTreeSet<usize>,
+    /// Codes of constants, by whether they are stored.
+    codes: BTreeSet<(bool, u16)>,
 }
 
-pub struct Tally(BTreeMap<&'static str, Counts>);
-
 impl Tally {
-    /// Nothing counted yet. The header says which refusals an export has.
-    pub fn new(exports: &[Export], declared: &[Declared]) -> Self {
-        let counts = |export: &Export| {
-            let named = declared
-                .iter()
-                .find(|declared| declared.name == export.name);
-            let named = named.map(|declared| declared.refusals.clone());
-            Counts {
-                cases: 0,
-                values: 0,
-                refused: [0; LAST + 1],
-                wanted: wanted(export, named.unwrap_or_default()),
-            }
-        };
-        Tally(
-            exports
-                .iter()
-                .map(|export| (export.name, counts(export)))
-                .collect(),
-        )
+    /// Nothing counted yet. The header says which refusals an export has, and what it writes.
+    pub fn new(export: &Export, declared: &[Declared]) -> Self {
+        let declared = declared.iter().find(|other| other.name == export.name);
+        let refusals = declared.map(|declared| declared.refusals.clone());
+        Tally {
+            name: export.name,
+            has_output: export.call.has_output(),
+            wanted: wanted(export, refusals.unwrap_or_default()),
+            wanted_lengths: declared.map_or(Lengths::Any, |declared| declared.lengths.clone()),
+            cases: 0,
+            values: 0,
+            refused: [0; LAST + 1],
+            lengths: BTreeSet::new(),
+            codes: BTreeSet::new(),
+        }
     }
 
-    pub fn add(&mut self, export: &Export, answer: &Answer) {
-        let counts = self
-            .0
-            .get_mut(export.name)
-            .expect("every export is counted");
-        counts.cases += 1;
+    pub fn add(&mut self, numbers: Numbers, answer: &Answer) {
+        self.cases += 1;
         match answer {
-            Answer::Refused(number) => counts.refused[usize::from(*number)] += 1,
-            Answer::Number(_) => counts.values += 1,
-            Answer::Row(_) | Answer::Ended(_) => {
-                counts.values += 1;
-                counts.refused[usize::from(refusal::NO_SPACE)] += TOO_SHORT;
+            Answer::Refused(number) => self.refused[usize::from(*number)] += 1,
+            Answer::Number(_) => self.values += 1,
+            Answer::Row(row) | Answer::Ended(row) => {
+                self.values += 1;
+                self.refused[usize::from(refusal::NO_SPACE)] += TOO_SHORT;
+                self.lengths.insert(row.len());
+                if self.name == CONSTANTS {
+                    let is_stored = numbers[0] as i32 >= 0;
+                    self.codes
+                        .insert((is_stored, u16::from_le_bytes([row[0], row[1]])));
+                }
             }
         }
     }
 
     pub fn cases(&self) -> u64 {
-        self.0.values().map(|counts| counts.cases).sum()
+        self.cases
     }
 
-    /// The exports that never came to a value or to one of their refusals, and those that came to a
-    /// refusal that the header does not name.
+    pub fn calls(&self) -> u64 {
+        match self.has_output {
+            true => CALLS * self.cases,
+            false => self.cases,
+        }
+    }
+
+    /// What never came up of what the export should come to, and what came up though it should not.
     pub fn faults(&self) -> Vec<String> {
-        let of = |(name, counts): (&&str, &Counts)| {
-            let mut faults = Vec::new();
-            if counts.values == 0 {
-                faults.push(format!("{name} never answered with a value"));
+        let mut faults = Vec::new();
+        if self.values == 0 {
+            faults.push("no value".into());
+        }
+        for number in 1..=LAST as u8 {
+            let came_up = self.refused[usize::from(number)] > 0;
+            match (self.wanted.contains(&number), came_up) {
+                (true, false) => faults.push(format!("no refusal {number}")),
+                (false, true) => faults.push(format!("refusal {number}, which is not named")),
+                _ => {}
             }
-            for number in 1..=LAST as u8 {
-                let came_up = counts.refused[usize::from(number)] > 0;
-                match (counts.wanted.contains(&number), came_up) {
-                    (true, false) => faults.push(format!("{name} never refused {number}")),
-                    (false, true) => faults.push(format!("{name} refused {number}, unnamed")),
-                    _ => {}
-                }
-            }
-            faults
-        };
-        self.0.iter().flat_map(of).collect()
+        }
+        if !self.has_wanted_lengths() {
+            let (found, wanted) = (&self.lengths, &self.wanted_lengths);
+            faults.push(format!("rows of {found:?} bytes instead of {wanted:?}"));
+        }
+        faults.extend(self.missing_codes());
+        let named = |fault| format!("{}: {fault}", self.name);
+        faults.into_iter().map(named).collect()
+    }
+
+    /// Whether the rows have all the lengths that are said, and no others; a bound may be above them.
+    fn has_wanted_lengths(&self) -> bool {
+        let (first, last) = (self.lengths.first(), self.lengths.last());
+        match &self.wanted_lengths {
+            Lengths::Any => true,
+            Lengths::These(lengths) => self.lengths == *lengths,
+            Lengths::Range(None, most) => last <= Some(most),
+            Lengths::Range(Some(least), most) => first == Some(least) && last == Some(most),
+        }
+    }
+
+    fn missing_codes(&self) -> Vec<String> {
+        if self.name != CONSTANTS {
+            return Vec::new();
+        }
+        let inline = INLINE_CODES.into_iter().map(|code| (false, code));
+        inline
+            .chain(stored_codes().map(|code| (true, code)))
+            .filter(|code| !self.codes.contains(code))
+            .map(|(is_stored, code)| format!("no constant of code {code}, stored: {is_stored}"))
+            .collect()
     }
 }
 
@@ -111,20 +151,22 @@ fn wanted(export: &Export, mut named: BTreeSet<u8>) -> BTreeSet<u8> {
     named
 }
 
-/// A line for each export: cases, values, and the refusals by number.
+/// The titles of the columns of [`Tally`]'s lines.
+pub fn titles() -> String {
+    let refusals: String = (1..=LAST)
+        .map(|number| format!(" {:>8}", format!("-{number}")))
+        .collect();
+    format!("{:32} {:>9} {:>9}{refusals}", "reading", "cases", "values")
+}
+
+/// Cases, values, and the refusals by number.
 impl Display for Tally {
     fn fmt(&self, f: &mut fmt::Formatter) -> fmt::Result {
-        write!(f, "{:32} {:>9} {:>9}", "reading", "cases", "values")?;
-        for number in 1..=LAST {
-            write!(f, " {:>8}", format!("-{number}"))?;
-        }
-        for (name, counts) in &self.0 {
-            write!(f, "\n{name:32} {:>9} {:>9}", counts.cases, counts.values)?;
-            for count in &counts.refused[1..] {
-                match count {
-                    0 => write!(f, " {:>8}", ".")?,
-                    _ => write!(f, " {count:>8}")?,
-                }
+        write!(f, "{:32} {:>9} {:>9}", self.name, self.cases, self.values)?;
+        for count in &self.refused[1..] {
+            match count {
+                0 => write!(f, " {:>8}", ".")?,
+                _ => write!(f, " {count:>8}")?,
             }
         }
         Ok(())
