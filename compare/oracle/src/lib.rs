@@ -20,6 +20,7 @@ pub mod product;
 pub mod random;
 pub mod readings;
 pub mod sheet;
+pub mod timing;
 
 pub use arraydesc::{ArrayDesc, SafeArrayBound};
 pub use custdata::CustDataEntry;

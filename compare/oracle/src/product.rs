@@ -1,13 +1,165 @@
-//! The product's sheet call. It is linked only if the build names its static library.
+//! The product's calls that are timed, and its sheet call. They are linked only if the build names
+//! its static library.
+
+use std::array;
+
+/// An output for any reading but the sheet, and the numbers in it.
+pub struct Out([u8; 64]);
+
+impl Default for Out {
+    fn default() -> Self {
+        Out([0; 64])
+    }
+}
+
+impl Out {
+    /// The numbers of eight bytes from this byte on.
+    fn numbers<const N: usize>(&self, at: usize) -> [usize; N] {
+        array::from_fn(|index| {
+            let bytes = self.0[at + 8 * index..][..8].try_into();
+            u64::from_le_bytes(bytes.expect("eight bytes")) as usize
+        })
+    }
+}
+
+/// Declares calls by the numbers that they take beside the library, and gives each a safe form. The
+/// calls read the library's bytes and write the output's alone; that they do no more is what the
+/// comparison places them before a guard page for.
+macro_rules! calls {
+    ($($name:ident $linked:ident($($number:ident: $ty:ty),*)),* $(,)?) => {
+        unsafe extern "C" {
+            $(fn $linked(lib: *const u8, n: usize, $($number: $ty,)* out: *mut u8, room: usize) -> i64;)*
+        }
+        mod raw {
+            $(pub fn $name(lib: &[u8], $($number: $ty,)* out: &mut [u8]) -> i64 {
+                let (to, room) = (out.as_mut_ptr(), out.len());
+                unsafe { super::$linked(lib.as_ptr(), lib.len(), $($number,)* to, room) }
+            })*
+        }
+    };
+}
+
+calls! {
+    sheet msft_sheet(),
+    typeinfo msft_typeinfo(index: usize),
+    impl_types msft_impl_types(at: usize, len: usize),
+    walk msft_walk(at: usize, len: usize, next: u32),
+    member_name msft_member_name(index: usize, k: usize),
+    funcs msft_funcs(at: usize, len: usize),
+    func_step msft_func_step(pos: usize, end: usize, remaining: usize),
+    names msft_names(),
+    name_step msft_name_step(pos: usize, end: usize, start: usize),
+    name msft_name(offset: i32),
+    name_bytes msft_name_bytes(offset: i32),
+    string msft_string(offset: i32),
+    const_value msft_const_value(word: i32),
+}
 
 unsafe extern "C" {
-    /// The bytes written, or minus the refusal's number.
-    fn msft_sheet(lib: *const u8, lib_len: usize, out: *mut u8, out_len: usize) -> i64;
+    fn msft_parse(lib: *const u8, n: usize) -> i64;
+    fn msft_version(lib: *const u8, n: usize) -> i64;
+    fn msft_typeinfo_count(lib: *const u8, n: usize) -> i64;
 }
 
 /// The product's reply to a sheet call on these bytes.
 pub fn sheet(lib: &[u8], out: &mut [u8]) -> i64 {
-    // The call reads the library's bytes and writes the output's alone; that it does no more is
-    // what the comparison places them before a guard page for.
-    unsafe { msft_sheet(lib.as_ptr(), lib.len(), out.as_mut_ptr(), out.len()) }
+    raw::sheet(lib, out)
+}
+
+pub fn parse(lib: &[u8]) -> i64 {
+    unsafe { msft_parse(lib.as_ptr(), lib.len()) }
+}
+
+pub fn version(lib: &[u8]) -> i64 {
+    unsafe { msft_version(lib.as_ptr(), lib.len()) }
+}
+
+pub fn typeinfo_count(lib: &[u8]) -> usize {
+    let count = unsafe { msft_typeinfo_count(lib.as_ptr(), lib.len()) };
+    usize::try_from(count).unwrap_or(0)
+}
+
+/// A typeinfo's place and length.
+pub fn typeinfo(lib: &[u8], index: usize, out: &mut Out) -> Option<(usize, usize)> {
+    let reply = raw::typeinfo(lib, index, &mut out.0);
+    let [at, len] = out.numbers(0);
+    (reply > 0).then_some((at, len))
+}
+
+/// The cursor at the first type that a typeinfo implements.
+pub fn impl_types(lib: &[u8], at: usize, len: usize, out: &mut Out) -> Option<(usize, usize, u32)> {
+    let reply = raw::impl_types(lib, at, len, &mut out.0);
+    let [at, len, next] = out.numbers(0);
+    (reply > 0).then_some((at, len, next as u32))
+}
+
+pub fn walk(lib: &[u8], at: usize, len: usize, next: u32, out: &mut Out) -> Option<usize> {
+    let reply = raw::walk(lib, at, len, next, &mut out.0);
+    let [count] = out.numbers(0);
+    (reply > 0).then_some(count)
+}
+
+/// The length of a member's name.
+pub fn member_name(lib: &[u8], index: usize, k: usize, out: &mut Out) -> Option<usize> {
+    let reply = raw::member_name(lib, index, k, &mut out.0);
+    let [_, len] = out.numbers(0);
+    (reply > 0).then_some(len)
+}
+
+/// The cursor at a typeinfo's first function.
+pub fn funcs(lib: &[u8], at: usize, len: usize, out: &mut Out) -> Option<[usize; 3]> {
+    let reply = raw::funcs(lib, at, len, &mut out.0);
+    (reply > 0).then(|| out.numbers(0))
+}
+
+/// The cursor behind the function at this one.
+pub fn func_step(lib: &[u8], [pos, end, left]: [usize; 3], out: &mut Out) -> Option<[usize; 3]> {
+    let reply = raw::func_step(lib, pos, end, left, &mut out.0);
+    (reply > 0).then(|| out.numbers(16))
+}
+
+/// The cursor at the first name.
+pub fn names(lib: &[u8], out: &mut Out) -> [usize; 3] {
+    raw::names(lib, &mut out.0);
+    out.numbers(0)
+}
+
+/// The cursor behind the name at this one.
+pub fn name_step(lib: &[u8], [pos, end, start]: [usize; 3], out: &mut Out) -> Option<[usize; 3]> {
+    let reply = raw::name_step(lib, pos, end, start, &mut out.0);
+    (reply > 0).then(|| out.numbers(35))
+}
+
+/// The length of the name at an offset; 0 where there is none.
+pub fn name(lib: &[u8], offset: i32, out: &mut Out) -> u64 {
+    let reply = raw::name(lib, offset, &mut out.0);
+    length(reply, out)
+}
+
+pub fn name_bytes(lib: &[u8], offset: i32, out: &mut Out) -> u64 {
+    let reply = raw::name_bytes(lib, offset, &mut out.0);
+    length(reply, out)
+}
+
+/// The length of the string at an offset; 0 where there is none.
+pub fn string(lib: &[u8], offset: i32, out: &mut Out) -> u64 {
+    let reply = raw::string(lib, offset, &mut out.0);
+    length(reply, out)
+}
+
+/// The code of a constant's type; 0 where there is none.
+pub fn constant(lib: &[u8], word: i32, out: &mut Out) -> u64 {
+    match raw::const_value(lib, word, &mut out.0) {
+        1.. => u64::from(u16::from_le_bytes([out.0[0], out.0[1]])),
+        _ => 0,
+    }
+}
+
+/// The length of the place that was written.
+fn length(reply: i64, out: &Out) -> u64 {
+    let [_, len] = out.numbers(0);
+    match reply {
+        1.. => len as u64,
+        _ => 0,
+    }
 }

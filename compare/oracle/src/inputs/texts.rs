@@ -43,7 +43,7 @@ fn long() -> impl Iterator<Item = Vec<u8>> {
 
 /// A library with one type, whose function and variable bear the text as their name. Where the text
 /// is longer than a name can be, a name is its beginning.
-fn library(text: &[u8], last: usize) -> Vec<u8> {
+pub fn library(text: &[u8], last: usize) -> Vec<u8> {
     let own = name(b"own");
     let text_at = own.len() as u32;
     let short = &text[..text.len().min(LONGEST_NAME)];
