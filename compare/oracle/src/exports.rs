@@ -5,6 +5,7 @@ pub mod call;
 mod cursors;
 mod library;
 pub mod numbers;
+pub mod pool;
 mod table;
 mod views;
 

@@ -103,7 +103,7 @@ fn typeinfos() -> [Input; 3] {
 }
 
 /// Long chains that end or come round.
-fn chains() -> impl Iterator<Item = Input> {
+pub fn chains() -> impl Iterator<Item = Input> {
     [
         ("the longest chain", large::longest_chain(-1)),
         ("the longest chain, a circle", large::longest_chain(0)),

@@ -2,7 +2,8 @@
 
 use std::process::ExitCode;
 
-use msft_typelib::exports::numbers::{Asks, Pool, Words};
+use msft_typelib::exports::numbers::{Asks, Words};
+use msft_typelib::exports::pool::Pool;
 use msft_typelib::inputs::layout::Layout;
 use msft_typelib::inputs::{Input, Inputs, constants, edges, large, records, texts};
 use msft_typelib::random::Random;
@@ -147,13 +148,18 @@ fn noise(mut random: Random) -> impl Iterator<Item = Input> {
     })
 }
 
-/// Inputs as long as they may be, longer, and with too many types. The longer one could be read; it
-/// is document 01 that has every export refuse it.
+/// Inputs as long as they may be, longer, with too many types, and with long chains and tables. The
+/// longer one could be read; it is document 01 that has every export refuse it.
 fn long() -> impl Iterator<Item = Input> {
-    let types = Input::new("too many types".into(), large::many_types(MOST_TYPES + 1));
     let padded = [MOST_BYTES, MOST_BYTES + 1]
         .map(|length| Input::new(format!("{length} bytes"), edges::padded(length)));
-    padded.into_iter().chain([types])
+    let tables = [
+        ("too many types", large::many_types(MOST_TYPES + 1)),
+        ("many functions", large::many_functions(2)),
+        ("many names", large::many_names()),
+    ]
+    .map(|(word, bytes)| Input::new(word.into(), bytes));
+    padded.into_iter().chain(edges::chains()).chain(tables)
 }
 
 /// Damaged and made-up libraries, until these make so many cases.
