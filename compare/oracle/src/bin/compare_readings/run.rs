@@ -101,9 +101,6 @@ impl Run {
     /// Lends the input to the product, and asks each export about it with the numbers that are given
     /// for what its own mean. Most inputs touch the guard page behind them, some the one before.
     pub fn ask(&mut self, input: &Input, numbers: impl Fn(Asks, &mut Random) -> Vec<Numbers>) {
-        if self.is_hopeless() {
-            return;
-        }
         self.inputs += 1;
         let side = match self.inputs % 4 {
             0 => Side::Start,
@@ -112,6 +109,9 @@ impl Run {
         self.lent.hold(&input.bytes, side);
         let parsed = Parsed::new(&input.bytes);
         for at in 0..self.driven.len() {
+            if self.is_hopeless() {
+                return;
+            }
             let export = &self.driven[at].export;
             let asked = numbers(export.asks, &mut self.random);
             stopped::trying(&format!("{}, {}", export.name, input.name));
