@@ -6,22 +6,20 @@ use std::time::{Duration, Instant};
 /// end, pieces of it are taken out, and pieces are set to zero; pieces get smaller each round.
 pub fn shrink(input: &[u8], most: Duration, mut differs: impl FnMut(&[u8]) -> bool) -> Vec<u8> {
     let started = Instant::now();
+    let is_over = || started.elapsed() > most;
     let mut best = input.to_vec();
     let mut try_it = |candidate: Vec<u8>, best: &mut Vec<u8>| {
-        if candidate == *best || started.elapsed() > most {
-            return false;
-        }
-        let is_smaller = differs(&candidate);
+        let is_smaller = candidate != *best && differs(&candidate);
         if is_smaller {
             *best = candidate;
         }
         is_smaller
     };
     let mut piece = input.len().next_power_of_two() / 2;
-    while piece > 0 {
+    while piece > 0 && !is_over() {
         while best.len() >= piece && try_it(best[..best.len() - piece].to_vec(), &mut best) {}
         let mut at = 0;
-        while at < best.len() {
+        while at < best.len() && !is_over() {
             if !try_it(without(&best, at, piece), &mut best) {
                 try_it(with_zeros(&best, at, piece), &mut best);
                 at += piece;
