@@ -42,6 +42,16 @@ impl Input {
         Input { name, bytes }
     }
 
+    /// It with one of its bits changed, for each of them.
+    pub fn bit_changes(&self) -> impl Iterator<Item = Input> + '_ {
+        (0..self.bytes.len() * 8).map(|bit| {
+            let name = format!("{} with bit {bit} changed", self.name);
+            let mut changed = Input::new(name, self.bytes.clone());
+            changed.bytes[bit / 8] ^= 1 << (bit % 8);
+            changed
+        })
+    }
+
     /// The first so many bytes of it.
     pub fn beginning(&self, length: usize) -> Self {
         let name = format!("{length} bytes of {}", self.name);

@@ -7,15 +7,13 @@ use super::answer::{Answer, Row, Tell};
 use super::numbers::{Asks, Cursor, Numbers};
 use super::views::record;
 use super::{Export, Rust, export, linked};
+use crate::library::REFERENCE_SEGMENT;
 use crate::readings::{Kind, NOTHING, place_in};
 use crate::sheet::refusal;
 use crate::{
     FuncIter, FuncRecord, GuidEntryIter, ImpFileIter, ImpInfoIter, ImplTypeIter, NameEntry,
     NameIter, ParamIter, TypeInfoEntry, TypeLib, VarIter,
 };
-
-/// The segment that `impl_types` counts its offsets in.
-const REFERENCES: usize = 3;
 
 pub(super) fn exports() -> Vec<Export> {
     let mut exports = of_library();
@@ -65,7 +63,7 @@ fn of_records() -> Vec<Export> {
         export!(TwoOut msft_impl_types, Asks::Record(Kind::TypeInfo), Library, |lib, numbers| {
             let typeinfo = record(lib, Kind::TypeInfo, numbers).map(TypeInfoEntry::new);
             // The reference keeps the table's beginning; the cursor has its length beside it.
-            let (_, len) = lib.segment(REFERENCES).unwrap_or((0, 0));
+            let (_, len) = lib.segment(REFERENCE_SEGMENT).unwrap_or((0, 0));
             let chain = typeinfo.map(|typeinfo| lib.impl_types(&typeinfo));
             chain.map(|chain| chain_row(Row::new(), &chain, len)).tell(lib.data())
         }),

@@ -4,7 +4,7 @@ use std::process::ExitCode;
 
 use msft_typelib::exports::numbers::{Asks, Words};
 use msft_typelib::exports::pool::Pool;
-use msft_typelib::inputs::layout::Layout;
+use msft_typelib::inputs::layout::{self, Layout};
 use msft_typelib::inputs::{Input, Inputs, constants, edges, large, records, texts};
 use msft_typelib::random::Random;
 use msft_typelib::readings::Kind;
@@ -53,6 +53,11 @@ pub fn compare(options: &Options) -> ExitCode {
     made_records(&mut run, &mut inputs.random(FOR_RECORDS));
     stored_constants(&mut run);
     beginnings(&mut run, &inputs);
+    for whole in small() {
+        for input in whole.bit_changes() {
+            drawn(&mut run, &input, ABOUT_OTHER);
+        }
+    }
     for input in noise(inputs.random(FOR_NOISE)).chain(long()) {
         drawn(&mut run, &input, ABOUT_NUMBERED);
     }
@@ -135,6 +140,23 @@ fn beginnings(run: &mut Run, inputs: &Inputs) {
             });
         }
     }
+}
+
+/// Libraries of which every bit is changed: without tables, so that a bit of the header decides whether
+/// they are long enough, and with members, names, texts and an import.
+fn small() -> impl Iterator<Item = Input> {
+    let no_types = Layout::new(Vec::new());
+    let mut with_help = Layout::new(Vec::new());
+    with_help.header_word(layout::VARFLAGS, layout::HELP_DLL);
+    let one_type = Layout::new(vec![0]);
+    [
+        ("no types", no_types.bytes()),
+        ("no types, a help DLL", with_help.bytes()),
+        ("one type, no tables", one_type.bytes()),
+        ("one text", texts::library(b"text", 0)),
+    ]
+    .into_iter()
+    .map(|(word, bytes)| Input::new(word.into(), bytes))
 }
 
 /// Bytes that are no library, behind the magic or not.
