@@ -2,10 +2,13 @@
 use mathlib.Core.Path.{_≡_, refl, sym, _∙_, ap}
 use mathlib.Core.Bool.{cond}
 use mathlib.Core.List.{List}
-use Prim.Native.Nat.{ℕ, _+_, _*_, _/_, _%_, _^_, _≤_, _<_}
+use Prim.Native.Nat.{ℕ, zero, suc, _+_, _-_, _*_, _/_, _%_, _^_, _≤_, _<_}
+use native.Mathlib.Omega.{arith}
 use lib.Dec.{leb, ltb, eqb}
-use lib.ListN.{length}
+use lib.ListN.{length, getD, take, drop, length-drop}
+use lib.Seq.{getD-take, getD-drop, length-take-le}
 use borrow.Author.Tests.{le-leb, lt-leb, le-ltb, lt-ltb, eq-eqb, ne-eqb}
+use Rattle.util.specs.Read.{le, read, orZero, read-zero}
 use Rattle.records.specs.Answer.{Answer, value, refused}
 use Rattle.records.specs.Record.{limit}
 use Rattle.typelib.specs.Header.{header, signature, word, tableAt, directoryAt, libraryOf, parseOf}
@@ -58,3 +61,20 @@ table-with s b h e =
 
 pub table-without : (s : List ℕ) (b : ℕ) → (b ≡ 1 → ⊥) → b ≡ word "varflags" s / 2 ^ 8 % 2 ^ 1 → 84 ≡ tableAt s
 table-without s b h e = rw (ne-eqb (word "varflags" s / 256 % 2) 1 (λ f. h (e ∙ f)))
+
+-- ---- the words of a part
+
+le-part : (w : ℕ) (s : List ℕ) (at n k : ℕ) → k + w ≤ n → le w (take n (drop at s)) k ≡ le w s (at + k)
+unfolding le
+le-part zero s at n k h = refl
+le-part (suc w) s at n k h =
+    let first : getD (take n (drop at s)) k 0 ≡ getD s (at + k) 0 = getD-take n (drop at s) k 0 (omega arith) ∙ getD-drop at s k 0 in
+    let rest : le w (take n (drop at s)) (k + 1) ≡ le w s (at + (k + 1)) = le-part w s at n (k + 1) (omega arith) in
+    let e : at + (k + 1) ≡ at + k + 1 = omega arith in
+    ap (λ b. b + 256 * le w (take n (drop at s)) (k + 1)) first ∙ ap (λ r. getD s (at + k) 0 + 256 * r) (rest ∙ ap (λ i. le w s i) e)
+
+pub word-in-part : (s : List ℕ) (at n k v : ℕ) → k + 4 ≤ n → at + n ≤ length s → v ≡ orZero (read 4 (take n (drop at s)) k) → v ≡ le 4 s (at + k)
+word-in-part s at n k v h l e =
+    let d : length (drop at s) ≡ length s - at = length-drop at s in
+    let g : length (take n (drop at s)) ≡ n = length-take-le n (drop at s) (omega arith) in
+    read-zero 4 (take n (drop at s)) k v (omega arith) e ∙ le-part 4 s at n k h

@@ -67,8 +67,9 @@ fn segment_entry(s: &[u8], at: usize) -> Segment
     requires { ⌜ at + 16 ≤ length (now s) ⌝ }
     ensures { λ r. ⌜ r ≡ segmentAt (now (s .entry)) at ⌝ }
 {
-    let offset = util::u32_or_zero(s, at);
-    let length = util::u32_or_zero(s, at + 4);
+    let entry = &s[at..at + 16];
+    let offset = util::u32_or_zero(entry, 0);
+    let length = util::u32_or_zero(entry, 4);
     Segment { offset, length }
 }
 
