@@ -11,17 +11,15 @@ use sheet_trees::trees;
 use sheet_trees::values;
 use typelib::TypeLib;
 ghost use mathlib.Core.Path.{_≡_};
-ghost use mathlib.Core.List.{_++_};
 ghost use Prim.Native.Nat.{_≤_};
 ghost use lib.ListN.{length};
 ghost use Rattle.records.specs.Answer.{value, map};
-ghost use Rattle.records.specs.Attributes.{defaultValueOffset};
 ghost use Rattle.records.specs.Told.{toldI32};
 ghost use Rattle.cursors.specs.Cursors.{paramStep};
-ghost use Rattle.description.specs.Format.{encode, opt, list, leBytes};
+ghost use Rattle.description.specs.Format.{encode, opt, list};
 ghost use Rattle.description.specs.Sheet.{edition-one, u16, constant, parameter};
 ghost use Rattle.describe.specs.Values.{all, numbered};
-ghost use Rattle.describe.specs.Members.{yields, constantBy, defaultOf, parameterOf, parametersOf};
+ghost use Rattle.describe.specs.Members.{yields, constantBy, parameterOf, parametersOf};
 ghost use Rattle.emit.specs.Emit.{Emitted, put, past};
 ghost use Rattle.sheet_members.specs.Lists.{layAll};
 
@@ -69,7 +67,7 @@ fn put_each(
     }
 }
 
-// Parameter `index` of `func`.
+// Parameter `index` of `func`. It has a default value where its flags have 0x20.
 fn put_parameter(
     s: &[u8],
     lib: TypeLib,
@@ -89,27 +87,12 @@ fn put_parameter(
         trees::put_tree(s, lib, field, out, to)
     };
     let t = values::put_opt_name(s, lib, emit::word_at(s, param.at, 0x04), out, t);
-    put_flags(s, lib, func, index, flags, out, t)
-}
-
-// A parameter's flags, and its default value where they have 0x20. (Where they have not, the flags and
-// the byte 0 are one number.)
-fn put_flags(
-    s: &[u8],
-    lib: TypeLib,
-    func: FuncRecord,
-    index: usize,
-    flags: u32,
-    out: &mut [u8],
-    to: usize,
-) -> usize
-    ensures { λ r. ⌜ Emitted (value (leBytes 4 flags ++ encode (opt constant) (defaultOf (now (s .entry)) lib flags (defaultValueOffset index (now (s .entry)) (func .at) (func .len))))) (put to) (now (out .entry)) (put r) (now (out .exit)) ⌝ }
-{
     if flags / 0x20 % 2 == 1 {
-        let t = emit::put_u32(out, to, flags);
+        let t = emit::put_u32(out, t, flags);
         put_constant_by(s, lib, func.default_value_offset(s, index), out, t)
     } else {
-        emit::put_le(out, to, flags as u64, 5)
+        // the flags and the byte 0 of a missing default are one number
+        emit::put_le(out, t, flags as u64, 5)
     }
 }
 
