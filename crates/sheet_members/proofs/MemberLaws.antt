@@ -28,13 +28,14 @@ use Rattle.typelib.specs.TypeInfos.{funcMemid, varMemid, funcNameOffset, varNam
 use Rattle.description.specs.Format.{Format, encode, opt, list, leBytes, length-leBytes}
 use Rattle.description.specs.Description.{Bytes, Tree, Parameter, Function, Variable, isConstant}
 use Rattle.description.specs.Sheet.{edition-one, u16, u32, name, constant, tree, variableValue, variable, parameter, function}
-use Rattle.describe.specs.Values.{fieldOf, all, numbered}
+use Rattle.describe.specs.Values.{found, fieldOf, all, numbered}
 use Rattle.describe.specs.Trees.{treeOf}
 use Rattle.describe.specs.Constants.{constantOf}
 use Rattle.describe.specs.Members.{funcRecords, varRecords, paramRecords, yields, nameOf, nameBy, memidBy, constantBy, defaultOf, parameterWith, parameterOf, parametersOf, functionWith, functionOf, functionsOf, valueWith, variableWith, variableOf, variablesOf}
 use Rattle.emit.specs.Emit.{Put}
 use Rattle.emit.specs.Emit.{_▸_, Emitted, put, past}
 use Rattle.emit.specs.Laws.{leBytes-join, patched}
+use Rattle.sheet_members.proofs.WordLaws.{memid-same, name-same}
 use Rattle.sheet_members.specs.Lists.{layAll, members-laid, members-none}
 use Rattle.sheet_members.specs.Words.{functionWords, valueBytes}
 
@@ -122,7 +123,7 @@ module _ (s : List ℕ) (lib : TypeLib) where
       by (refused n) = refl
 
   pub function-is : (ti : TypeInfoEntry) (i : ℕ) (p : Place) {field : ℕ} (m o : Answer ℤ)
-      → m ≡ signed32 (funcMemid s ti i) → o ≡ signed32 (funcNameOffset s ti i) → field ≡ orZero (read 4 s (p .at + 4))
+      → found m ≡ found (signed32 (funcMemid s ti i)) → found o ≡ found (signed32 (funcNameOffset s ti i)) → field ≡ orZero (read 4 s (p .at + 4))
       → value (encode (opt u32) (memidBy m))
       ▸ (value (encode (opt name) (nameBy s lib o))
       ▸ (bytesOfTree (treeOf s lib field)
@@ -131,7 +132,7 @@ module _ (s : List ℕ) (lib : TypeLib) where
       ≡ map (encode (function edition-one (lib .count))) (functionOf s lib ti i p)
   unfolding functionOf function functionWords
   function-is ti i p {field} m o e g h =
-      rw (e, g, h) (by (treeOf s lib (orZero (read 4 s (p .at + 4)))) (all (parametersOf s lib (record { at = p .at; len = p .len }))))
+      rw (memid-same m (signed32 (funcMemid s ti i)) e, name-same s lib o (signed32 (funcNameOffset s ti i)) g, h) (by (treeOf s lib (orZero (read 4 s (p .at + 4)))) (all (parametersOf s lib (record { at = p .at; len = p .len }))))
     where
       by : (t : Answer Tree) (ps : Answer (List Parameter))
           → value (encode (opt u32) (memidBy (signed32 (funcMemid s ti i))))

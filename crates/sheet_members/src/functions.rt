@@ -1,10 +1,12 @@
 // Functions.
 use crate::Listed;
 use crate::parameters;
+use crate::words;
 use cursors::iterators;
 use cursors::iterators::FuncCursor;
 use cursors::iterators::FuncStep;
 use cursors::iterators::FuncsAnswer;
+use records::answer::I32Answer;
 use records::func::FuncRecord;
 use records::typeinfo::TypeInfoEntry;
 use sheet_trees::trees;
@@ -14,10 +16,13 @@ ghost use mathlib.Core.Path.{_≡_};
 ghost use Prim.Native.Nat.{_≤_};
 ghost use lib.ListN.{length};
 ghost use Rattle.records.specs.Answer.{value, map};
+ghost use Rattle.records.specs.Record.{signed32};
+ghost use Rattle.records.specs.Told.{toldI32};
+ghost use Rattle.typelib.specs.TypeInfos.{funcMemid, funcNameOffset};
 ghost use Rattle.cursors.specs.Cursors.{funcStep};
 ghost use Rattle.description.specs.Format.{encode, list};
 ghost use Rattle.description.specs.Sheet.{edition-one, u16, function};
-ghost use Rattle.describe.specs.Values.{all, numbered};
+ghost use Rattle.describe.specs.Values.{found, all, numbered};
 ghost use Rattle.describe.specs.Members.{yields, functionOf, functionsOf};
 ghost use Rattle.emit.specs.Emit.{Emitted, put, past};
 ghost use Rattle.sheet_members.specs.Lists.{layAll};
@@ -51,6 +56,7 @@ fn put_each(
 ) -> Listed
     ensures { λ r. ⌜ Emitted (layAll (function edition-one (lib .count)) (numbered (functionOf (now (s .entry)) lib ti) 0 (yields (funcStep (now (s .entry))) (cursor .remaining) cursor))) (put to) (now (out .entry)) (put (r .to)) (now (out .exit)) × (r .to ≤ past → r .count ≡ length (yields (funcStep (now (s .entry))) (cursor .remaining) cursor)) ⌝ }
 {
+    let rows = words::func_rows(s, ti);
     let mut t = to;
     let mut c = cursor;
     let mut i: usize = 0;
@@ -61,26 +67,32 @@ fn put_each(
         let FuncStep::Record(func, next) = c.step(s) else {
             return Listed { to: t, count: i };
         };
-        t = put_function(s, lib, ti, i, func, out, t);
+        let memid = words::word(s, rows.memids, i);
+        let name_offset = words::word(s, rows.names, i);
+        t = put_function(s, lib, ti, i, memid, name_offset, func, out, t);
         c = next;
         i += 1;
     }
 }
 
-// Function `index` of `ti`.
+// Function `index` of `ti`, with its identifier and the offset of its name.
 fn put_function(
     s: &[u8],
     lib: TypeLib,
     ti: TypeInfoEntry,
     index: usize,
+    memid: I32Answer,
+    name_offset: I32Answer,
     func: FuncRecord,
     out: &mut [u8],
     to: usize,
 ) -> usize
+    requires { ⌜ found (toldI32 memid) ≡ found (signed32 (funcMemid (now s) ti index)) ⌝ }
+    requires { ⌜ found (toldI32 «name_offset») ≡ found (signed32 (funcNameOffset (now s) ti index)) ⌝ }
     ensures { λ r. ⌜ Emitted (map (encode (function edition-one (lib .count))) (functionOf (now (s .entry)) lib ti index (record { at = func .at; len = func .len }))) (put to) (now (out .entry)) (put r) (now (out .exit)) ⌝ }
 {
-    let t = values::put_opt_memid(lib.func_memid(s, ti, index), out, to);
-    let t = values::put_name_by(s, lib, lib.func_name_offset(s, ti, index), out, t);
+    let t = values::put_opt_memid(memid, out, to);
+    let t = values::put_name_by(s, lib, name_offset, out, t);
     let field = emit::word_at(s, func.at, 0x04);
     let t = if crate::NEGATIVE <= field {
         trees::put_inline(s, field, out, t)

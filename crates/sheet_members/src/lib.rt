@@ -2,6 +2,7 @@
 pub mod functions;
 pub mod parameters;
 pub mod variables;
+pub mod words;
 
 // The least type field that is negative as a signed number: a base type, as all that are not below it.
 pub const NEGATIVE: u32 = 0x8000_0000;
