@@ -3,11 +3,11 @@ use mathlib.Core.Path.{_≡_, refl, sym, ap, _∙_}
 use mathlib.Core.Bool.{Bool, true, false}
 use mathlib.Core.Option.{Option, some, none}
 use mathlib.Core.List.{List, [], _∷_, _++_}
-use Prim.Native.Nat.{ℕ, _+_, _*_, _/_, _%_, _^_}
+use Prim.Native.Nat.{ℕ, zero, suc, _+_, _-_, _*_, _/_, _%_, _^_, _≤_, _<_}
 use native.Mathlib.Omega.{arith}
 use lib.IntN.{ℤ}
 use lib.ListN.{length}
-use borrow.Author.Tests.{eq-eqb, ne-eqb}
+use borrow.Author.Tests.{eq-eqb, ne-eqb, le-leb, lt-leb}
 use mir.Syntax.{w32}
 use mir.Val.{ofZ}
 use Rattle.util.specs.Read.{read, orZero}
@@ -18,7 +18,7 @@ use Rattle.records.specs.declared.answer.I32Answer.{I32Answer}
 use Rattle.records.specs.declared.answer.I32Answer.the-variants as i32
 use Rattle.records.specs.Answer.{Answer, value, refused, map, bind}
 use Rattle.records.specs.Counted.{fileNameBytes}
-use Rattle.records.specs.Record.{partOf}
+use Rattle.records.specs.Record.{limit, partOf}
 use Rattle.records.specs.Told.{toldI32, toldPlace}
 use Rattle.typelib.specs.declared.TypeLib.{TypeLib}
 use Rattle.records.specs.declared.impfile.ImpFile.{ImpFile}
@@ -29,7 +29,9 @@ use Rattle.typelib.specs.declared.references.ResolvedAnswer.{ResolvedAnswer}
 use Rattle.typelib.specs.declared.references.ResolvedAnswer.the-variants as resolved
 use Rattle.typelib.specs.declared.references.ResolvedHreftype.{ResolvedHreftype}
 use Rattle.typelib.specs.Names.{guidPlace, nameBytes}
-use Rattle.typelib.specs.References.{Resolved, hrefResolved}
+use Rattle.typelib.specs.References.{Resolved, dispatchBit, cleared, internalIndex, resolvedAt, hrefResolved}
+use Rattle.typelib.specs.ReferenceLaws.{index-there, index-beyond, cleared-set, cleared-clear, resolved-internal as in-this-file}
+use Rattle.typelib.specs.TableLaws.{lent-fits}
 use Rattle.typelib.specs.References.{internal as here, external}
 use Rattle.typelib.specs.Told.{toldImpFile, toldHreftype, toldResolved}
 use Rattle.description.specs.Format.{encode, opt, leBytes}
@@ -183,3 +185,36 @@ module _ (s : List ℕ) (lib : TypeLib) where
     reference-none {m} l =
         let q : refused m ≡ hrefResolved s lib h = sym (ap toldResolved l) ∙ k ∙ ap (hrefResolved s lib) e in
         rw (← q)
+
+-- ---- references in this file
+
+module _ (s : List ℕ) (lib : TypeLib) (h : ℕ) where
+  pub unresolved : {m : ℕ} → refused m ≡ hrefResolved s lib h → value (0 ∷ []) ≡ value (encode (reference edition-one (lib .count)) (referenceOf s lib h))
+  unfolding referenceOf referenceFrom reference
+  unresolved q = rw (← q)
+
+  pub resolved-here : {b i : ℕ} → b ≡ h / 2 ^ 24 % 2 ^ 1 → value (here i) ≡ hrefResolved s lib h
+      → value (internalBytes b i) ≡ value (encode (reference edition-one (lib .count)) (referenceOf s lib h))
+  unfolding referenceBytes referenceOf
+  resolved-here {b} {i} g m = resolved-internal s lib b (here i) refl ∙ rw (g, m)
+
+  pub href-below-zero : length s ≤ limit → 0x80000000 ≤ h → refused 9 ≡ hrefResolved s lib h
+  href-below-zero l k = lent-fits _ _ _ l (rw (le-leb 0x80000000 h k))
+
+  href-in : (a : Answer Resolved) → length s ≤ limit → h < 0x80000000 → a ≡ resolvedAt s lib (cleared h) → a ≡ hrefResolved s lib h
+  href-in a l k e = lent-fits _ _ _ l (rw (lt-leb 0x80000000 h k) e)
+
+  cleared-is : (b c : ℕ) → b ≡ h / 2 ^ 24 % 2 ^ 1 → c ≡ h - dispatchBit * b → c ≡ cleared h
+  cleared-is zero c g e = let f : c ≡ h = omega arith in f ∙ cleared-clear h 0 (λ o. absurd (omega arith)) g
+  cleared-is (suc zero) c g e = let f : c ≡ h - dispatchBit = omega arith in f ∙ cleared-set h 1 refl g
+  cleared-is (suc (suc k)) c g e = absurd (omega arith)
+
+  module _ (b c : ℕ) (g : b ≡ h / 2 ^ 24 % 2 ^ 1) (e : c ≡ h - dispatchBit * b) (l : length s ≤ limit) (k : h < 0x80000000) (z : h % 4 ≡ 0) where
+    at-index : (a : Answer ℕ) → a ≡ internalIndex lib c → map here a ≡ hrefResolved s lib h
+    at-index a q = href-in _ l k (in-this-file s lib c _ (omega arith) (ap (map here) q) ∙ ap (resolvedAt s lib) (cleared-is b c g e))
+
+    pub index-in : c / 100 < lib .count → value (here (c / 100)) ≡ hrefResolved s lib h
+    index-in lt = at-index (value (c / 100)) (index-there lib c lt)
+
+    pub index-out : lib .count ≤ c / 100 → refused 9 ≡ hrefResolved s lib h
+    index-out le = at-index (refused 9) (index-beyond lib c le)

@@ -10,7 +10,9 @@ use typelib::references::ResolvedAnswer;
 use typelib::references::ResolvedHreftype;
 ghost use mathlib.Core.Path.{_≡_};
 ghost use mathlib.Core.List.{_++_, _∷_};
+ghost use Prim.Native.Nat.{_%_};
 ghost use Rattle.records.specs.Answer.{value};
+ghost use Rattle.typelib.specs.declared.TypeLib.{TypeLib as Lib};
 ghost use Rattle.records.specs.Layout.{impInfo};
 ghost use Rattle.records.specs.Told.{toldPlace};
 ghost use Rattle.typelib.specs.Told.{toldImpFile, toldHreftype};
@@ -21,6 +23,14 @@ ghost use Rattle.describe.specs.References.{fileOf, fileAt, ownOf, importOf, re
 ghost use Rattle.emit.specs.Emit.{Emitted, put};
 ghost use Rattle.sheet_trees.specs.Parts.{ownBytes, fileBytes, importBytes, internalBytes, referenceBytes};
 
+// The most bytes that a library has.
+const LIMIT: usize = 16_777_216;
+
+const NEGATIVE: u32 = 0x8000_0000;
+
+// The bit of a dispatch interface's reference.
+const DISPATCH_BIT: u32 = 0x0100_0000;
+
 // The reference of an hreftype.
 pub fn put_reference(s: &[u8], lib: TypeLib, href: u32, out: &mut [u8], to: usize) -> usize
     ensures { λ r. ⌜ Emitted (value (encode (reference edition-one (lib .count)) (referenceOf (now (s .entry)) lib href))) (put to) (now (out .entry)) (put r) (now (out .exit)) ⌝ }
@@ -29,6 +39,26 @@ pub fn put_reference(s: &[u8], lib: TypeLib, href: u32, out: &mut [u8], to: usiz
     match lib.resolve_hreftype_full(s, util::signed32(href)) {
         ResolvedAnswer::Value(r) => put_resolved(s, lib, bit, r, out, to),
         ResolvedAnswer::Refused(_) => emit::put_u8(out, to, 0),
+    }
+}
+
+// The same of an hreftype whose low two bits are clear, in a library of `count` typeinfos: a typeinfo of this library.
+// (Most are. Its caller saves a copy of the library's 128 bytes, which `put_reference` takes by value.)
+pub fn put_in_this_file(s: &[u8], count: u32, href: u32, out: &mut [u8], to: usize) -> usize
+    ensures { λ r. ⌜ ((lib : Lib) → lib .count ≡ count → href % 4 ≡ 0 → Emitted (value (encode (reference edition-one (lib .count)) (referenceOf (now (s .entry)) lib href))) (put to) (now (out .entry)) (put r) (now (out .exit))) ⌝ }
+{
+    if LIMIT < s.len() {
+        return emit::put_u8(out, to, 0);
+    }
+    if NEGATIVE <= href {
+        return emit::put_u8(out, to, 0);
+    }
+    let bit = util::bits(href, 24, 1);
+    let index = (href - DISPATCH_BIT * bit) / 100;
+    if index < count {
+        put_internal(bit, TypeInfoIndex(index as usize), out, to)
+    } else {
+        emit::put_u8(out, to, 0)
     }
 }
 

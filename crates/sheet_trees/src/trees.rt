@@ -101,7 +101,11 @@ fn put_user(s: &[u8], lib: TypeLib, href: u32, out: &mut [u8], to: usize) -> usi
     ensures { λ r. ⌜ Emitted (value (5 ∷ encode (reference edition-one (lib .count)) (referenceOf (now (s .entry)) lib href))) (put to) (now (out .entry)) (put r) (now (out .exit)) ⌝ }
 {
     let t = emit::put_u8(out, to, 5);
-    references::put_reference(s, lib, href, out, t)
+    if util::bits(href, 0, 2) == 0 {
+        references::put_in_this_file(s, lib.count, href, out, t)
+    } else {
+        references::put_reference(s, lib, href, out, t)
+    }
 }
 
 // A C array's descriptor: the count of its dimensions, and each.
