@@ -1,10 +1,12 @@
 // Constants: inline in a record's word, or stored in segment 11.
 use records::answer::Place;
 use records::answer::PlaceAnswer;
+use records::field::LIMIT;
 use records::types::ConstValue;
 use typelib::TypeLib;
 use util::F32Read;
 use util::F64Read;
+use util::NEGATIVE;
 ghost use mathlib.Core.Path.{_≡_};
 ghost use Prim.Native.Nat.{_+_, _≤_, _<_};
 ghost use lib.ListN.{length};
@@ -14,10 +16,6 @@ ghost use Rattle.records.specs.Varenum.{VT-DECIMAL};
 ghost use Rattle.util.specs.Read.{le};
 ghost use Rattle.constants.specs.Constants.{storedWidth, r4Of, r8Of, dateOf, constantOf, inlineCode, inlineOf, textBehind, valueBehind, storedAt, constAt};
 ghost use Rattle.constants.specs.Told.{toldConst};
-
-const LIMIT: usize = 16_777_216;
-
-const NEGATIVE: u32 = 0x8000_0000;
 
 const CONSTANTS: usize = 11;
 

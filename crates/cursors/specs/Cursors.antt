@@ -181,14 +181,14 @@ impFileStep s c = impFileStepFrom c (lent s (impFileEntry s (c .pos) (c .end)))
 
 -- ---- tables from their start to their end; a missing one is empty
 
-abbrev pub guidsOf : TypeLib → GuidCursor
-guidsOf lib = record { pos = tableOf (segmentOf lib 5) .at; end = tableOf (segmentOf lib 5) .at + tableOf (segmentOf lib 5) .len }
+abbrev pub guidsOf : List ℕ → TypeLib → GuidCursor
+guidsOf s lib = record { pos = tableOf (segmentOf s lib 5) .at; end = tableOf (segmentOf s lib 5) .at + tableOf (segmentOf s lib 5) .len }
 
-abbrev pub importsOf : TypeLib → ImportCursor
-importsOf lib = record { pos = tableOf (segmentOf lib 1) .at; end = tableOf (segmentOf lib 1) .at + tableOf (segmentOf lib 1) .len }
+abbrev pub importsOf : List ℕ → TypeLib → ImportCursor
+importsOf s lib = record { pos = tableOf (segmentOf s lib 1) .at; end = tableOf (segmentOf s lib 1) .at + tableOf (segmentOf s lib 1) .len }
 
-abbrev pub impFilesOf : TypeLib → ImpFileCursor
-impFilesOf lib = record { pos = tableOf (segmentOf lib 2) .at; end = tableOf (segmentOf lib 2) .at + tableOf (segmentOf lib 2) .len }
+abbrev pub impFilesOf : List ℕ → TypeLib → ImpFileCursor
+impFilesOf s lib = record { pos = tableOf (segmentOf s lib 2) .at; end = tableOf (segmentOf s lib 2) .at + tableOf (segmentOf s lib 2) .len }
 
 -- ---- typeinfos
 
@@ -233,10 +233,10 @@ nameStepFrom c (refused n) = over n c
 abbrev pub nameStep : List ℕ → NameCursor → NameYield
 nameStep s c = nameStepFrom c (lent s (nameEntry s c))
 
-abbrev pub namesOf : TypeLib → NameCursor
-namesOf lib =
+abbrev pub namesOf : List ℕ → TypeLib → NameCursor
+namesOf s lib =
     record {
-      pos = tableOf (segmentOf lib 7) .at;
-      end = tableOf (segmentOf lib 7) .at + tableOf (segmentOf lib 7) .len;
-      start = tableOf (segmentOf lib 7) .at;
+      pos = tableOf (segmentOf s lib 7) .at;
+      end = tableOf (segmentOf s lib 7) .at + tableOf (segmentOf s lib 7) .len;
+      start = tableOf (segmentOf s lib 7) .at;
     }

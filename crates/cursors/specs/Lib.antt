@@ -2,6 +2,7 @@
 pub mod Cursors
 pub mod CursorLaws
 pub mod Search
+pub mod Tabulate
 pub mod Chain
 pub mod ChainLaws
 pub mod Members

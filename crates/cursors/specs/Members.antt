@@ -36,4 +36,4 @@ behind (suc k) s href (over n c) = refused n
 -- name, is dropped.
 abbrev pub memberName : List ℕ → TypeLib → ℕ → ℕ → Answer Place
 memberName s lib index k =
-    lent s (bind (offsetWord s lib index) (λ href. behind (suc k) s href (matching (length s) s href (namesOf lib))))
+    lent s (bind (offsetWord s lib index) (λ href. behind (suc k) s href (matching (length s) s href (namesOf s lib))))

@@ -4,6 +4,7 @@ use records::answer::Place;
 use records::answer::PlaceAnswer;
 use records::answer::U32Answer;
 use records::field;
+use records::field::LIMIT;
 use records::refrecord::RefRecord;
 use records::typeinfo::TypeInfoEntry;
 use typelib::TypeLib;
@@ -14,8 +15,6 @@ ghost use lib.ListN.{length};
 ghost use Rattle.records.specs.Told.{toldPlace};
 ghost use Rattle.cursors.specs.Chain.{implTypesOf, referenceAt, onext, implTypeStep, walkOf};
 ghost use Rattle.cursors.specs.Chain.{toldImplTypes, toldImplTypeStep, toldWalk};
-
-const LIMIT: usize = 16_777_216;
 
 const REFERENCE_TABLE: usize = 3;
 
@@ -49,7 +48,7 @@ pub fn impl_types(lib: TypeLib, s: &[u8], ti: TypeInfoEntry) -> ImplTypesAnswer
 {
     match field::field_u32(s, ti.at, ti.len, TypeInfoEntry::SIZE, 0x54) {
         U32Answer::Value(next) => {
-            let table = lib.table(REFERENCE_TABLE);
+            let table = lib.table(s, REFERENCE_TABLE);
             ImplTypesAnswer::Value(ImplTypeCursor { table, next })
         }
         U32Answer::Refused(n) => ImplTypesAnswer::Refused(n),

@@ -10,6 +10,7 @@ use records::answer::U16Answer;
 use records::answer::U32Answer;
 use records::answer::UsizeAnswer;
 use records::field;
+use records::field::LIMIT;
 use records::func::FuncRecord;
 use records::guidentry::GuidEntry;
 use records::impfile::ImpFile;
@@ -23,6 +24,7 @@ use typelib::TypeLib;
 use typelib::typeinfos::Counts;
 use typelib::typeinfos::CountsAnswer;
 use typelib::typeinfos::TypeInfoAnswer;
+use util::NEGATIVE;
 ghost use mathlib.Core.Path.{_≡_};
 ghost use Prim.Native.Nat.{_+_, _-_, _^_, _≤_, _<_};
 ghost use lib.ListN.{length};
@@ -30,10 +32,6 @@ ghost use Rattle.records.specs.Told.{toldPlace, toldUsize};
 ghost use Rattle.cursors.specs.Cursors.{recordAt, funcStep, varStep, blockWith, funcCursor, funcsOf, skip, varsFrom, varCursor, varsOf, fixedAt, guidStep, importStep, paramCursor, paramsOf, paramAt, paramStep, impFileEntry, impFileStep, guidsOf, importsOf, impFilesOf, typeinfoStep, nameEntryFrom, nameEntry, nameStep, namesOf};
 ghost use Rattle.typelib.specs.Tables.{lent, segmentOf};
 ghost use Rattle.cursors.specs.Told.{toldFuncs, toldFuncStep, toldVars, toldVarStep, toldParams, toldParamStep, toldGuidStep, toldImportStep, toldImpFileStep, toldTypeInfoStep, toldNameStep, toldNameEntry, toldBlock, toldSkip};
-
-const LIMIT: usize = 16_777_216;
-
-const NEGATIVE: u32 = 0x8000_0000;
 
 pub struct FuncCursor {
     pub pos: usize,
@@ -198,10 +196,10 @@ pub fn params(s: &[u8], func: FuncRecord) -> ParamsAnswer
 }
 
 // The entries of the GUID table.
-pub fn guids(lib: TypeLib) -> GuidCursor
-    ensures { λ r. ⌜ r ≡ guidsOf lib ⌝ }
+pub fn guids(lib: TypeLib, s: &[u8]) -> GuidCursor
+    ensures { λ r. ⌜ r ≡ guidsOf (now (s .entry)) lib ⌝ }
 {
-    let table = lib.table(5);
+    let table = lib.table(s, 5);
     GuidCursor {
         pos: table.at,
         end: table.at + table.len,
@@ -209,10 +207,10 @@ pub fn guids(lib: TypeLib) -> GuidCursor
 }
 
 // The import records.
-pub fn imports(lib: TypeLib) -> ImportCursor
-    ensures { λ r. ⌜ r ≡ importsOf lib ⌝ }
+pub fn imports(lib: TypeLib, s: &[u8]) -> ImportCursor
+    ensures { λ r. ⌜ r ≡ importsOf (now (s .entry)) lib ⌝ }
 {
-    let table = lib.table(1);
+    let table = lib.table(s, 1);
     ImportCursor {
         pos: table.at,
         end: table.at + table.len,
@@ -220,10 +218,10 @@ pub fn imports(lib: TypeLib) -> ImportCursor
 }
 
 // The import files.
-pub fn imp_files(lib: TypeLib) -> ImpFileCursor
-    ensures { λ r. ⌜ r ≡ impFilesOf lib ⌝ }
+pub fn imp_files(lib: TypeLib, s: &[u8]) -> ImpFileCursor
+    ensures { λ r. ⌜ r ≡ impFilesOf (now (s .entry)) lib ⌝ }
 {
-    let table = lib.table(2);
+    let table = lib.table(s, 2);
     ImpFileCursor {
         pos: table.at,
         end: table.at + table.len,
@@ -231,10 +229,10 @@ pub fn imp_files(lib: TypeLib) -> ImpFileCursor
 }
 
 // The entries of the name table.
-pub fn names(lib: TypeLib) -> NameCursor
-    ensures { λ r. ⌜ r ≡ namesOf lib ⌝ }
+pub fn names(lib: TypeLib, s: &[u8]) -> NameCursor
+    ensures { λ r. ⌜ r ≡ namesOf (now (s .entry)) lib ⌝ }
 {
-    let table = lib.table(7);
+    let table = lib.table(s, 7);
     NameCursor {
         pos: table.at,
         end: table.at + table.len,

@@ -4,6 +4,7 @@ use crate::iterators::NameCursor;
 use crate::iterators::NameStep;
 use records::answer::PlaceAnswer;
 use records::answer::U32Answer;
+use records::field::LIMIT;
 use typelib::TypeInfoIndex;
 use typelib::TypeLib;
 ghost use mathlib.Core.Path.{_≡_};
@@ -12,8 +13,6 @@ ghost use lib.ListN.{length};
 ghost use Rattle.records.specs.Told.{toldPlace};
 ghost use Rattle.cursors.specs.Members.{matching, behind, memberName};
 ghost use Rattle.cursors.specs.Told.{toldNameStep};
-
-const LIMIT: usize = 16_777_216;
 
 // Name `k`, from 0, of the entries of a typeinfo, its own name left out. (The source builds the
 // list of them.)
@@ -24,7 +23,7 @@ pub fn member_name(lib: TypeLib, s: &[u8], index: TypeInfoIndex, k: usize) -> Pl
         return PlaceAnswer::Refused(1);
     }
     match lib.offset_word(s, index.0) {
-        U32Answer::Value(href) => match next_match(s, href, iterators::names(lib)) {
+        U32Answer::Value(href) => match next_match(s, href, iterators::names(lib, s)) {
             NameStep::Record(_, c) => match_behind(s, href, k, next_match(s, href, c)),
             NameStep::Refused(n, _) => PlaceAnswer::Refused(n),
         },

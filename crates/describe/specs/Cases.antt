@@ -29,7 +29,7 @@ module _ (s : List ℕ) (lib : TypeLib) where
 
   module _ (P : Resolved → Type 0) (internal : (i : ℕ) → i < lib .count → P (here i))
       (imported : (p : Place) (offset : ℕ) → value p ≡ tablePlace true s lib 1 offset (sizeOf impInfo) → P (external p (impFileAt s lib (le 4 s (p .at + offsetOf impInfo "oImpFile"))))) where
-    index-case : (h : ℕ) → IfValue (λ i. P (here i)) (internalIndex lib h)
+    index-case : (h : ℕ) → IfValue (λ i. P (here i)) (internalIndex (lib .count) h)
     unfolding internalIndex
     index-case h =
         cond-elim (IfValue (λ i. P (here i))) (ltb (h / 100) (lib .count)) (value (h / 100)) (refused 9)

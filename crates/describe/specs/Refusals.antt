@@ -31,7 +31,7 @@ use Rattle.typelib.specs.Descriptors.{typeDescription}
 use Rattle.typelib.specs.Header.{header, word, signature, directoryAt, parseOf}
 use Rattle.typelib.specs.Tables.{lent, negative, segmentOf, placeIn}
 use Rattle.typelib.specs.TableLaws.{found-in}
-use Rattle.typelib.specs.Tabulate.{tabulate}
+use Rattle.cursors.specs.Tabulate.{tabulate}
 use Rattle.typelib.specs.TypeInfos.{refusing, offsetWord, typeinfoIn, typeinfoOf}
 use Rattle.description.specs.Format.{Each}
 use Rattle.description.specs.Description.{Bytes, BaseShape, baseShapeOf, Tree, Library}
@@ -132,7 +132,7 @@ module _ (s : List ℕ) (lib : TypeLib) where
 
   start-sound : (ti : TypeInfoEntry) → Held ti → Sound (implTypesOf s lib ti)
   start-sound ti h =
-      answers-map (λ offset. record { table = referenceTable lib; next = offset })
+      answers-map (λ offset. record { table = referenceTable s lib; next = offset })
       (subst Sound (sym (field-is typeInfoBase "datatype1" s (ti .at) (ti .len) h)) (gives tt)) (λ _ _. tt)
 
   base-sound : (ti : TypeInfoEntry) → Held ti → (h : BaseShape) → Sound (baseOf s lib ti h)
@@ -156,7 +156,7 @@ module _ (s : List ℕ) (lib : TypeLib) where
       answers-lent s _ tt (λ few.
       answers-bind (refusing-sound {P = λ _. Unit {0}} 6 (offsetWord s lib i) tt (λ _ _. tt)) (λ offset _.
       cond-elim (Answers Listed P) (negative offset) _ _ (λ _. refuses tt) (λ _.
-      answers-bind (refusing-sound {P = λ _. Unit {0}} 7 (segmentOf lib 0) tt (λ _ _. tt)) (λ table _.
+      answers-bind (refusing-sound {P = λ _. Unit {0}} 7 (segmentOf s lib 0) tt (λ _ _. tt)) (λ table _.
       refusing-sound 8 (placeIn _ s table offset 100) tt (λ p e.
       let f = found-in _ s table offset 100 p e in
       record { few = few; whole = omega (arith, f .whole); inside = omega (arith, f .whole, f .inside) })))))

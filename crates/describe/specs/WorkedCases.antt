@@ -40,7 +40,7 @@ abbrev pub inlined : ℕ → Reply
 inlined word = constant (constAt (library 324) (libraryOf (library 324)) word)
 
 abbrev pub referred : ℕ → Reply
-referred href = reference (hrefResolved (library 324) (record { segments = []; count = 2; table = 84 }) href)
+referred href = reference (hrefResolved (library 324) (record { count = 2; table = 84 }) href)
 
 abbrev pub rows : List Row
 rows =

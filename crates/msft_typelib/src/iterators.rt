@@ -71,41 +71,45 @@ pub extern "C" fn msft_params(s: &[u8], at: usize, len: usize, out: &mut [u8]) -
 // The entries of the GUID table.
 #[no_mangle]
 pub extern "C" fn msft_guids(s: &[u8], out: &mut [u8]) -> i64
-    ensures { λ r. ⌜ outcome r (now (out .exit)) ≡ laid (past (now (s .entry)) (value (cursor guidNumbers (guidsOf (libraryIn (now (s .entry))))))) (now (out .entry)) ⌝ }
+    ensures { λ r. ⌜ outcome r (now (out .exit)) ≡ laid (past (now (s .entry)) (value (cursor guidNumbers (guidsOf (now (s .entry)) (libraryIn (now (s .entry))))))) (now (out .entry)) ⌝ }
 {
     let p = TypeLib::parse(s);
     let lib = p.lib;
-    reply::lay(p.number, rows::of_guids(iterators::guids(lib)), out)
+    reply::lay(p.number, rows::of_guids(iterators::guids(lib, s)), out)
 }
 
 // The import records.
 #[no_mangle]
 pub extern "C" fn msft_imports(s: &[u8], out: &mut [u8]) -> i64
-    ensures { λ r. ⌜ outcome r (now (out .exit)) ≡ laid (past (now (s .entry)) (value (cursor importNumbers (importsOf (libraryIn (now (s .entry))))))) (now (out .entry)) ⌝ }
+    ensures { λ r. ⌜ outcome r (now (out .exit)) ≡ laid (past (now (s .entry)) (value (cursor importNumbers (importsOf (now (s .entry)) (libraryIn (now (s .entry))))))) (now (out .entry)) ⌝ }
 {
     let p = TypeLib::parse(s);
     let lib = p.lib;
-    reply::lay(p.number, rows::of_imports(iterators::imports(lib)), out)
+    reply::lay(p.number, rows::of_imports(iterators::imports(lib, s)), out)
 }
 
 // The import files.
 #[no_mangle]
 pub extern "C" fn msft_imp_files(s: &[u8], out: &mut [u8]) -> i64
-    ensures { λ r. ⌜ outcome r (now (out .exit)) ≡ laid (past (now (s .entry)) (value (cursor impFileNumbers (impFilesOf (libraryIn (now (s .entry))))))) (now (out .entry)) ⌝ }
+    ensures { λ r. ⌜ outcome r (now (out .exit)) ≡ laid (past (now (s .entry)) (value (cursor impFileNumbers (impFilesOf (now (s .entry)) (libraryIn (now (s .entry))))))) (now (out .entry)) ⌝ }
 {
     let p = TypeLib::parse(s);
     let lib = p.lib;
-    reply::lay(p.number, rows::of_imp_files(iterators::imp_files(lib)), out)
+    reply::lay(
+        p.number,
+        rows::of_imp_files(iterators::imp_files(lib, s)),
+        out,
+    )
 }
 
 // The entries of the name table.
 #[no_mangle]
 pub extern "C" fn msft_names(s: &[u8], out: &mut [u8]) -> i64
-    ensures { λ r. ⌜ outcome r (now (out .exit)) ≡ laid (past (now (s .entry)) (value (cursor nameNumbers (namesOf (libraryIn (now (s .entry))))))) (now (out .entry)) ⌝ }
+    ensures { λ r. ⌜ outcome r (now (out .exit)) ≡ laid (past (now (s .entry)) (value (cursor nameNumbers (namesOf (now (s .entry)) (libraryIn (now (s .entry))))))) (now (out .entry)) ⌝ }
 {
     let p = TypeLib::parse(s);
     let lib = p.lib;
-    reply::lay(p.number, rows::of_names(iterators::names(lib)), out)
+    reply::lay(p.number, rows::of_names(iterators::names(lib, s)), out)
 }
 
 // The cursor over the types that `ti` implements, at the first.

@@ -14,11 +14,11 @@ ghost use mir.Val.{ofZ};
 // Where segment `index` lies; 9 where it is missing.
 #[no_mangle]
 pub extern "C" fn msft_segment(s: &[u8], index: usize, out: &mut [u8]) -> i64
-    ensures { λ r. ⌜ outcome r (now (out .exit)) ≡ laid (past (now (s .entry)) (map place (segmentOf (libraryIn (now (s .entry))) index))) (now (out .entry)) ⌝ }
+    ensures { λ r. ⌜ outcome r (now (out .exit)) ≡ laid (past (now (s .entry)) (map place (segmentOf (now (s .entry)) (libraryIn (now (s .entry))) index))) (now (out .entry)) ⌝ }
 {
     let p = TypeLib::parse(s);
     let lib = p.lib;
-    reply::lay(p.number, rows::of_place(lib.segment(index)), out)
+    reply::lay(p.number, rows::of_place(lib.segment(s, index)), out)
 }
 
 // A name's bytes, in the code page the library was built in.

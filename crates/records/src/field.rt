@@ -15,7 +15,8 @@ ghost use Rattle.records.specs.Answer.{map};
 ghost use Rattle.records.specs.Record.{held, recordPlace, fieldPlace, fieldAt, signed16, signed32, bitsOf, flagSet};
 ghost use Rattle.records.specs.Told.{toldHeld, toldU8, toldU16, toldU32, toldI16, toldI32, toldBool, toldUsize, toldPlace};
 
-const LIMIT: usize = 16_777_216;
+// The most bytes that are read (document 01, refusal 1).
+pub const LIMIT: usize = 16_777_216;
 
 pub enum Held {
     Inside,

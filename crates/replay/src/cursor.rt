@@ -55,19 +55,19 @@ fn of_library(
 ) -> Progress {
     let from = match reading {
         57 => {
-            let cursor = iterators::guids(lib);
+            let cursor = iterators::guids(lib, lent);
             state_of(cursor.pos, cursor.end, 0)
         }
         58 => {
-            let cursor = iterators::names(lib);
+            let cursor = iterators::names(lib, lent);
             state_of(cursor.pos, cursor.end, cursor.start)
         }
         59 => {
-            let cursor = iterators::imports(lib);
+            let cursor = iterators::imports(lib, lent);
             state_of(cursor.pos, cursor.end, 0)
         }
         60 => {
-            let cursor = iterators::imp_files(lib);
+            let cursor = iterators::imp_files(lib, lent);
             state_of(cursor.pos, cursor.end, 0)
         }
         _ => {

@@ -15,9 +15,9 @@ pub(crate) fn replay(
     before: Progress,
 ) -> Progress {
     match reading {
-        23 => same_place(recorded, before, lib.segment(index)),
+        23 => same_place(recorded, before, lib.segment(lent, index)),
         24 => same_place(recorded, before, lib.segment_data(lent, index)),
-        25 => same_place(recorded, before, PlaceAnswer::Value(lib.table(index))),
+        25 => same_place(recorded, before, PlaceAnswer::Value(lib.table(lent, index))),
         26 => same_place(recorded, before, lib.guid_hash_data(lent)),
         27 => same_place(recorded, before, lib.name_hash_data(lent)),
         28 => same_place(recorded, before, lib.lib_name(lent)),
@@ -41,7 +41,7 @@ pub(crate) fn place(
     let strict = segment == 1;
     let placed = lib.table_place(lent, segment, offset, size, strict);
     let progress = same_place(recorded, before, placed);
-    match lib.segment(segment) {
+    match lib.segment(lent, segment) {
         PlaceAnswer::Value(table) => same_place(
             recorded,
             progress,

@@ -5,12 +5,11 @@ use mathlib.Core.List.{List, [], _∷_}
 use Prim.Native.Nat.{ℕ, _+_, _*_}
 use Prim.Native.String.{String}
 use lib.Dec.{leb, ltb, eqb}
-use lib.ListN.{length, replicate}
+use lib.ListN.{length}
 use Rattle.util.specs.Read.{le}
 use Rattle.records.specs.Answer.{Answer, value, refused}
 use Rattle.records.specs.Layout.{Layout, _of_, sizeOf, offsetOf, widthOf}
 use Rattle.records.specs.Record.{limit, field, flagSet}
-use Rattle.typelib.specs.Tabulate.{tabulate}
 use Rattle.typelib.specs.declared.Segment.{Segment}
 use Rattle.typelib.specs.declared.TypeLib.{TypeLib}
 use Rattle.typelib.specs.declared.Parsed.{Parsed}
@@ -71,11 +70,8 @@ directoryAt s = tableAt s + 4 * word "nrtypeinfos" s
 abbrev pub segmentAt : List ℕ → ℕ → Segment
 segmentAt s at = record { offset = le 4 s at; length = le 4 s (at + widthOf pSeg "offset") }
 
-abbrev pub segmentsAt : List ℕ → ℕ → List Segment
-segmentsAt s at = tabulate (λ i. segmentAt s (at + sizeOf pSeg * i)) 15
-
 unfoldable pub libraryOf : List ℕ → TypeLib
-libraryOf s = record { segments = segmentsAt s (directoryAt s); count = word "nrtypeinfos" s; table = tableAt s }
+libraryOf s = record { count = word "nrtypeinfos" s; table = tableAt s }
 
 -- a library, or refusal 1 over-long, 2 short header, 3 wrong magic, 4 bad count, 5 short directory
 unfoldable pub parseOf : List ℕ → Answer TypeLib
@@ -89,7 +85,7 @@ parseOf s =
 
 -- a refusal carries its number and zeros
 abbrev pub noLibrary : TypeLib
-noLibrary = record { segments = replicate 15 (record { offset = 0; length = 0 }); count = 0; table = 0 }
+noLibrary = record { count = 0; table = 0 }
 
 abbrev pub parsed : Answer TypeLib → Parsed
 parsed (value lib) = record { number = 0; lib = lib }

@@ -1,5 +1,4 @@
 -- The definitions that the contracts of `typelib` cite, and the laws that callers use of them.
-pub mod Tabulate
 pub mod Header
 pub mod HeaderLaws
 pub mod Tables

@@ -11,20 +11,21 @@ use Rattle.typelib.specs.declared.TypeLib.{TypeLib}
 use Rattle.typelib.specs.Tables.{lent}
 use Rattle.typelib.specs.References.{internalIndex, hrefIndex, Resolved, internal, dispatchBit, cleared, importAt, resolvedAt}
 
+module _ (count h : ℕ) where
+  pub index-there : h / 100 < count → value (h / 100) ≡ internalIndex count h
+  unfolding internalIndex
+  index-there k = rw (lt-ltb (h / 100) count k)
+
+  pub index-beyond : count ≤ h / 100 → refused 9 ≡ internalIndex count h
+  unfolding internalIndex
+  index-beyond k = rw (le-ltb (h / 100) count k)
+
 module _ (lib : TypeLib) (h : ℕ) where
-  pub index-there : h / 100 < lib .count → value (h / 100) ≡ internalIndex lib h
-  unfolding internalIndex
-  index-there k = rw (lt-ltb (h / 100) (lib .count) k)
-
-  pub index-beyond : lib .count ≤ h / 100 → refused 9 ≡ internalIndex lib h
-  unfolding internalIndex
-  index-beyond k = rw (le-ltb (h / 100) (lib .count) k)
-
   pub href-negative : 0x80000000 ≤ h → refused 9 ≡ hrefIndex lib h
   unfolding hrefIndex
   href-negative k = rw (le-leb 0x80000000 h k)
 
-  pub href-internal : (a : Answer ℕ) → h < 0x80000000 → h % 4 ≡ 0 → a ≡ internalIndex lib h → a ≡ hrefIndex lib h
+  pub href-internal : (a : Answer ℕ) → h < 0x80000000 → h % 4 ≡ 0 → a ≡ internalIndex (lib .count) h → a ≡ hrefIndex lib h
   unfolding hrefIndex
   href-internal a k z e = rw (lt-leb 0x80000000 h k, eq-eqb (h % 4) 0 z) e
 
@@ -37,7 +38,7 @@ pub low-bits : (h r : ℕ) → r ≡ h / 2 ^ 0 % 2 ^ 2 → r ≡ h % 4
 low-bits h r e = omega arith
 
 module _ (s : List ℕ) (lib : TypeLib) (h : ℕ) where
-  pub resolved-internal : (a : Answer Resolved) → h % 4 ≡ 0 → a ≡ map internal (internalIndex lib h) → a ≡ resolvedAt s lib h
+  pub resolved-internal : (a : Answer Resolved) → h % 4 ≡ 0 → a ≡ map internal (internalIndex (lib .count) h) → a ≡ resolvedAt s lib h
   unfolding resolvedAt
   resolved-internal a z e = rw (eq-eqb (h % 4) 0 z) e
 

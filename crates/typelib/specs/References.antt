@@ -22,15 +22,15 @@ impFileAt s lib offset =
 abbrev pub inThisFile : ℕ → Bool
 inThisFile h = eqb (h % 4) 0
 
--- MSFT_HREFTYPE_INDEX: divided by the size of a typeinfo; nothing where the library has not so many
-unfoldable pub internalIndex : TypeLib → ℕ → Answer ℕ
-internalIndex lib h = cond (ltb (h / sizeOf typeInfoBase) (lib .count)) (value (h / sizeOf typeInfoBase)) (refused 9)
+-- MSFT_HREFTYPE_INDEX, in a library of `count` typeinfos: divided by the size of a typeinfo; nothing where there are not so many
+unfoldable pub internalIndex : ℕ → ℕ → Answer ℕ
+internalIndex count h = cond (ltb (h / sizeOf typeInfoBase) count) (value (h / sizeOf typeInfoBase)) (refused 9)
 
 -- an internal reference, as it stands
 unfoldable pub hrefIndex : TypeLib → ℕ → Answer ℕ
 hrefIndex lib h =
     cond (negative h) (refused 9)
-    (cond (inThisFile h) (internalIndex lib h) (refused 9))
+    (cond (inThisFile h) (internalIndex (lib .count) h) (refused 9))
 
 -- what a reference comes to: a typeinfo's index, or an import record and the import file it names, if that is there
 pub data Resolved : Type 0 where
@@ -51,7 +51,7 @@ importAt s lib offset =
     (tablePlace true s lib 1 offset (sizeOf impInfo))
 
 unfoldable pub resolvedAt : List ℕ → TypeLib → ℕ → Answer Resolved
-resolvedAt s lib h = cond (inThisFile h) (map internal (internalIndex lib h)) (importAt s lib (h - h % 4))
+resolvedAt s lib h = cond (inThisFile h) (map internal (internalIndex (lib .count) h)) (importAt s lib (h - h % 4))
 
 abbrev pub hrefResolved : List ℕ → TypeLib → ℕ → Answer Resolved
 hrefResolved s lib h = lent s (cond (negative h) (refused 9) (resolvedAt s lib (cleared h)))

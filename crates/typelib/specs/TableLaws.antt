@@ -2,11 +2,11 @@
 use mathlib.Core.Path.{_≡_, refl, sym, _∙_, ap}
 use mathlib.Core.Bool.{Bool, true, false, cond, _&&_}
 use mathlib.Core.List.{List}
-use Prim.Native.Nat.{ℕ, _+_, _^_, _≤_, _<_}
+use Prim.Native.Nat.{ℕ, _+_, _*_, _^_, _≤_, _<_}
 use native.Mathlib.Nat.{zero-add}
 use native.Mathlib.Omega.{arith}
 use lib.Dec.{leb, ltb, eqb}
-use lib.ListN.{length, getD}
+use lib.ListN.{length}
 use borrow.Author.Tests.{le-leb, lt-leb, le-ltb, lt-ltb, eq-eqb, ne-eqb, leb-true, leb-false, ltb-true, ltb-false, eqb-true}
 use lib.IntN.{ℤ}
 use mir.Syntax.{w32}
@@ -19,7 +19,8 @@ use Rattle.records.specs.RecordLaws.{held-elim}
 use Rattle.records.specs.Record.{limit, held, recordPlace}
 use Rattle.typelib.specs.declared.Segment.{Segment}
 use Rattle.typelib.specs.declared.TypeLib.{TypeLib}
-use Rattle.typelib.specs.Tables.{lent, segmentPlace, segmentOf, inTable, placeIn, tablePlace}
+use Rattle.typelib.specs.Header.{segmentAt}
+use Rattle.typelib.specs.Tables.{lent, segmentPlace, entryAt, segmentOf, inTable, placeIn, tablePlace}
 
 -- ---- over-long bytes
 
@@ -33,13 +34,18 @@ lent-fits s a r h e = rw (le-ltb limit (length s) h) e
 
 -- ---- segments
 
-pub segment-none : (lib : TypeLib) (k : ℕ) → 15 ≤ k → refused 9 ≡ segmentOf lib k
-unfolding segmentOf
-segment-none lib k h = rw (le-leb 15 k h)
+module _ (s : List ℕ) (lib : TypeLib) (k : ℕ) where
+  pub segment-none : 15 ≤ k → refused 9 ≡ segmentOf s lib k
+  unfolding segmentOf
+  segment-none h = rw (le-leb 15 k h)
 
-pub segment-some : (lib : TypeLib) (k : ℕ) (a : Answer Place) → k < 15 → a ≡ segmentPlace (getD (lib .segments) k (record { offset = 0; length = 0 })) → a ≡ segmentOf lib k
-unfolding segmentOf
-segment-some lib k a h e = rw (lt-leb 15 k h) e
+  pub segment-short : k < 15 → length s < entryAt lib k + 16 → refused 9 ≡ segmentOf s lib k
+  unfolding segmentOf
+  segment-short h l = rw (lt-leb 15 k h, lt-ltb (length s) (entryAt lib k + 16) l)
+
+  pub segment-some : (a : Answer Place) → k < 15 → entryAt lib k + 16 ≤ length s → a ≡ segmentPlace (segmentAt s (entryAt lib k)) → a ≡ segmentOf s lib k
+  unfolding segmentOf
+  segment-some a h l e = rw (lt-leb 15 k h, le-ltb (length s) (entryAt lib k + 16) l) e
 
 module _ (e : Segment) where
   pub segment-offset : 0x80000000 ≤ e .offset → refused 9 ≡ segmentPlace e
@@ -129,7 +135,7 @@ found strict s lib k offset size p =
     cond-elim (λ (a : Answer Place). value p ≡ a → Here s size p) (ltb limit (length s)) _ _
     (λ _ e. let z : _≡_ {A = ℕ} 0 1 = cc in absurd (omega arith))
     (λ h e.
-    let f = found-bind strict s (segmentOf lib k) offset size p e in
+    let f = found-bind strict s (segmentOf s lib k) offset size p e in
     record { few = ltb-false limit (length s) h; inside = f .inside; whole = f .whole })
 
 -- ---- signed offsets
@@ -178,13 +184,14 @@ pub record Small (p : Place) : Type 0 where
   pub start : p .at < 2 ^ 31
   pub size : p .len < 2 ^ 31
 
-pub small : (lib : TypeLib) (k : ℕ) (p : Place) → value p ≡ segmentOf lib k → Small p
+pub small : (s : List ℕ) (lib : TypeLib) (k : ℕ) (p : Place) → value p ≡ segmentOf s lib k → Small p
 unfolding segmentOf segmentPlace
-small lib k p =
+small s lib k p =
     let P : Answer Place → Type 0 = λ a. value p ≡ a → Small p in
     let no : P (refused 9) = λ e. let z : _≡_ {A = ℕ} 0 1 = cc in absurd (omega arith) in
-    let e = getD (lib .segments) k (record { offset = 0; length = 0 }) in
+    let e = segmentAt s (entryAt lib k) in
     cond-elim P (leb 15 k) _ _ (λ _. no) (λ _.
+    cond-elim P (ltb (length s) (entryAt lib k + 16)) _ _ (λ _. no) (λ _.
     cond-elim P (leb 0x80000000 (e .offset)) _ _ (λ _. no) (λ h1.
     cond-elim P (eqb (e .length) 0) _ _ (λ _. no) (λ _.
     cond-elim P (leb 0x80000000 (e .length)) _ _ (λ _. no) (λ h2 f.
@@ -194,4 +201,4 @@ small lib k p =
     record {
       start = omega (arith, leb-false 0x80000000 (e .offset) h1);
       size = omega (arith, leb-false 0x80000000 (e .length) h2);
-    }))))
+    })))))

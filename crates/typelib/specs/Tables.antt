@@ -2,14 +2,16 @@
 -- Assumes nothing.
 use mathlib.Core.Bool.{Bool, true, cond, _&&_}
 use mathlib.Core.List.{List}
-use Prim.Native.Nat.{ℕ, _+_}
+use Prim.Native.Nat.{ℕ, _+_, _*_}
 use lib.Dec.{leb, ltb, eqb}
-use lib.ListN.{length, getD}
+use lib.ListN.{length}
 use Rattle.records.specs.declared.answer.Place.{Place}
 use Rattle.records.specs.Answer.{Answer, value, refused, map, bind}
+use Rattle.records.specs.Layout.{sizeOf}
 use Rattle.records.specs.Record.{limit}
 use Rattle.typelib.specs.declared.Segment.{Segment}
 use Rattle.typelib.specs.declared.TypeLib.{TypeLib}
+use Rattle.typelib.specs.Header.{pSeg, segmentAt}
 
 -- bytes above the limit are 1 to every entry
 unfoldable pub lent : {A : Type 0} → List ℕ → Answer A → Answer A
@@ -27,8 +29,15 @@ segmentPlace e =
     (cond (negative (e .length)) (refused 9)
     (value (record { at = e .offset; len = e .length }))))
 
-unfoldable pub segmentOf : TypeLib → ℕ → Answer Place
-segmentOf lib k = cond (leb 15 k) (refused 9) (segmentPlace (getD (lib .segments) k (record { offset = 0; length = 0 })))
+-- entry k of the directory, behind one offset a typeinfo
+abbrev pub entryAt : TypeLib → ℕ → ℕ
+entryAt lib k = lib .table + 4 * lib .count + sizeOf pSeg * k
+
+-- segment k: missing, too, where its entry is not inside the bytes
+unfoldable pub segmentOf : List ℕ → TypeLib → ℕ → Answer Place
+segmentOf s lib k =
+    cond (leb 15 k) (refused 9)
+    (cond (ltb (length s) (entryAt lib k + sizeOf pSeg)) (refused 9) (segmentPlace (segmentAt s (entryAt lib k))))
 
 -- What bounds a table: the file's end, and in a strict place (an import, the fixed part of an import file) also the
 -- segment's. `end` is counted from the table's start.
@@ -43,7 +52,7 @@ placeIn strict s table offset size =
 
 -- the same of the table in segment k: 9 where it is missing
 abbrev pub tablePlace : Bool → List ℕ → TypeLib → ℕ → ℕ → ℕ → Answer Place
-tablePlace strict s lib k offset size = lent s (bind (segmentOf lib k) (λ table. placeIn strict s table offset size))
+tablePlace strict s lib k offset size = lent s (bind (segmentOf s lib k) (λ table. placeIn strict s table offset size))
 
 abbrev pub tableOf : Answer Place → Place
 tableOf (value p) = p

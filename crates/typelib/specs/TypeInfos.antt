@@ -36,7 +36,7 @@ typeinfoOffset s lib index = lent s (offsetWord s lib index)
 unfoldable pub typeinfoIn : List ℕ → TypeLib → ℕ → Answer Place
 typeinfoIn s lib offset =
     cond (negative offset) (refused 6)
-    (bind (refusing 7 (segmentOf lib 0)) (λ table.
+    (bind (refusing 7 (segmentOf s lib 0)) (λ table.
     refusing 8 (placeIn false s table offset (sizeOf typeInfoBase))))
 
 -- 6 where the index is not below the count, or its word not inside the bytes

@@ -2,7 +2,9 @@
 use crate::TypeLib;
 use records::answer::PlaceAnswer;
 use records::arraydesc::ArrayDesc;
+use records::field::LIMIT;
 use records::types::TypeDescription;
+use util::NEGATIVE;
 ghost use mathlib.Core.Path.{_≡_};
 ghost use Prim.Native.Nat.{_<_};
 ghost use mir.Syntax.{w32};
@@ -10,10 +12,6 @@ ghost use mir.Val.{ofZ};
 ghost use Rattle.typelib.specs.Descriptors.{typeDescAt, arrayDescAt, descriptionOf, typeDescription};
 ghost use Rattle.typelib.specs.Tables.{lent};
 ghost use Rattle.typelib.specs.Told.{toldPair, toldArrayDesc, toldDescription};
-
-const LIMIT: usize = 16_777_216;
-
-const NEGATIVE: u32 = 0x8000_0000;
 
 const TYPE_TABLE: usize = 9;
 

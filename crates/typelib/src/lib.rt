@@ -1,29 +1,26 @@
 // A type library and its tables: typelib.rs of the source.
 //
-// A library is the fifteen segments, the count of typeinfos and the start of their offset table, by
-// value, beside the lent bytes. Beside other bytes it is read by its own numbers, with the same
-// checks.
-use records::answer::Place;
-
+// A library is the count of its typeinfos and the start of their offset table, by value, beside the lent
+// bytes; where a segment lies is read from its directory, behind that table. Beside other bytes it is read by
+// its own numbers, with the same checks.
 pub mod descriptors;
 mod header;
 mod names;
 pub mod references;
 pub mod typeinfos;
 
+use records::answer::Place;
 use records::answer::PlaceAnswer;
+use records::field::LIMIT;
+use util::NEGATIVE;
 ghost use mathlib.Core.Path.{_≡_};
 ghost use Prim.Native.Nat.{_+_, _^_, _≤_, _<_};
 ghost use lib.Dec.{leb};
 ghost use lib.ListN.{length};
 ghost use Rattle.records.specs.Told.{toldPlace};
-ghost use Rattle.typelib.specs.Header.{tableAt, segmentAt, segmentsAt, parseOf, parsed};
+ghost use Rattle.typelib.specs.Header.{tableAt, segmentAt, parseOf, parsed};
 ghost use Rattle.typelib.specs.Tables.{segmentOf, inTable, placeIn, tablePlace, tableOf};
 ghost use Rattle.records.specs.Answer.{refused};
-
-const LIMIT: usize = 16_777_216;
-
-const NEGATIVE: u32 = 0x8000_0000;
 
 // A segment's file offset and length, each the 32-bit pattern of a signed number.
 pub struct Segment {
@@ -32,7 +29,6 @@ pub struct Segment {
 }
 
 pub struct TypeLib {
-    pub segments: [Segment; 15],
     pub count: u32,
     pub table: u32,
 }
@@ -45,7 +41,7 @@ pub struct TypeInfoIndex(pub usize);
 
 pub struct ImportOffset(pub u32);
 
-// Number 0 and the library, or the number of the refusal and zeros. (An enum cannot hold an array.)
+// Number 0 and the library, or the number of the refusal and zeros.
 pub struct Parsed {
     pub number: u8,
     pub lib: TypeLib,
@@ -73,35 +69,13 @@ fn segment_entry(s: &[u8], at: usize) -> Segment
     Segment { offset, length }
 }
 
-fn directory(s: &[u8], at: usize) -> [Segment; 15]
-    requires { ⌜ at + 240 ≤ length (now s) ⌝ }
-    ensures { λ r. ⌜ r ≡ segmentsAt (now (s .entry)) at ⌝ }
-{
-    let mut t = [Segment {
-        offset: 0,
-        length: 0,
-    }; 15];
-    let mut i: usize = 0;
-    while i < 15 {
-        t[i] = segment_entry(s, at + 16 * i);
-        i += 1;
-    }
-    t
-}
-
 fn refusal(number: u8) -> Parsed
     ensures { λ r. ⌜ r ≡ parsed (refused number) ⌝ }
 {
-    let segments = [Segment {
-        offset: 0,
-        length: 0,
-    }; 15];
-    let lib = TypeLib {
-        segments,
-        count: 0,
-        table: 0,
-    };
-    Parsed { number, lib }
+    Parsed {
+        number,
+        lib: TypeLib { count: 0, table: 0 },
+    }
 }
 
 impl TypeLib {
@@ -132,23 +106,22 @@ impl TypeLib {
         if size < at + 240 {
             return refusal(5);
         }
-        let segments = directory(s, at);
-        let lib = TypeLib {
-            segments,
-            count,
-            table,
-        };
+        let lib = TypeLib { count, table };
         Parsed { number: 0, lib }
     }
 
     // Where segment `index` lies; 9 where it is missing.
-    pub fn segment(self, index: usize) -> PlaceAnswer
-        ensures { λ r. ⌜ toldPlace r ≡ segmentOf self index ⌝ }
+    pub fn segment(self, s: &[u8], index: usize) -> PlaceAnswer
+        ensures { λ r. ⌜ toldPlace r ≡ segmentOf (now (s .entry)) self index ⌝ }
     {
         if 15 <= index {
             return PlaceAnswer::Refused(9);
         }
-        let e = self.segments[index];
+        let at = self.table as usize + 4 * (self.count as usize) + 16 * index;
+        if s.len() < at + 16 {
+            return PlaceAnswer::Refused(9);
+        }
+        let e = segment_entry(s, at);
         let offset = e.offset;
         let length = e.length;
         if NEGATIVE <= offset {
@@ -167,10 +140,10 @@ impl TypeLib {
     }
 
     // A segment's place, or an empty one at the start of the file where it is missing.
-    pub fn table(self, index: usize) -> Place
-        ensures { λ r. ⌜ (r ≡ tableOf (segmentOf self index)) × (r .at + r .len < 2 ^ 32) ⌝ }
+    pub fn table(self, s: &[u8], index: usize) -> Place
+        ensures { λ r. ⌜ (r ≡ tableOf (segmentOf (now (s .entry)) self index)) × (r .at + r .len < 2 ^ 32) ⌝ }
     {
-        match self.segment(index) {
+        match self.segment(s, index) {
             PlaceAnswer::Value(place) => place,
             PlaceAnswer::Refused(_) => Place { at: 0, len: 0 },
         }
@@ -190,7 +163,7 @@ impl TypeLib {
         if LIMIT < s.len() {
             return PlaceAnswer::Refused(1);
         }
-        match self.segment(index) {
+        match self.segment(s, index) {
             PlaceAnswer::Value(table) => place_in(s, table, offset, size, strict),
             PlaceAnswer::Refused(n) => PlaceAnswer::Refused(n),
         }

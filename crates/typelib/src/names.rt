@@ -7,6 +7,7 @@ use records::answer;
 use records::answer::I32Answer;
 use records::answer::Place;
 use records::answer::PlaceAnswer;
+use records::field::LIMIT;
 use records::guid::Guid;
 use records::guidentry::GuidAnswer;
 ghost use mathlib.Core.Path.{_≡_};
@@ -119,7 +120,7 @@ impl TypeLib {
     pub fn segment_data(self, s: &[u8], index: usize) -> PlaceAnswer
         ensures { λ r. ⌜ toldPlace r ≡ segmentBytes (now (s .entry)) self index ⌝ }
     {
-        match self.segment(index) {
+        match self.segment(s, index) {
             PlaceAnswer::Value(place) => records::field::record_place(s, place.at, place.len, 0),
             PlaceAnswer::Refused(n) => over_long(s, n),
         }
@@ -172,7 +173,7 @@ impl TypeLib {
 fn over_long(s: &[u8], number: u8) -> PlaceAnswer
     ensures { λ r. ⌜ toldPlace r ≡ lent (now (s .entry)) (refused number) ⌝ }
 {
-    if 16_777_216 < s.len() {
+    if LIMIT < s.len() {
         return PlaceAnswer::Refused(1);
     }
     PlaceAnswer::Refused(number)

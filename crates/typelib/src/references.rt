@@ -3,17 +3,15 @@ use crate::ImportOffset;
 use crate::TypeInfoIndex;
 use crate::TypeLib;
 use records::answer::PlaceAnswer;
+use records::field::LIMIT;
 use records::impfile::ImpFile;
 use records::impinfo::ImpInfo;
+use util::NEGATIVE;
 ghost use mathlib.Core.Path.{_≡_};
 ghost use mir.Syntax.{w32};
 ghost use mir.Val.{ofZ};
 ghost use Rattle.typelib.specs.References.{impFileAt, internalIndex, hrefIndex, importAt, resolvedAt, cleared, hrefResolved};
 ghost use Rattle.typelib.specs.Told.{toldImpFile, toldIndex, toldResolved};
-
-const LIMIT: usize = 16_777_216;
-
-const NEGATIVE: u32 = 0x8000_0000;
 
 const IMPORT_TABLE: usize = 1;
 
@@ -84,7 +82,7 @@ impl TypeLib {
 
     // A typeinfo's byte offset is its index times the size of a typeinfo.
     fn internal_index(self, offset: u32) -> IndexAnswer
-        ensures { λ r. ⌜ toldIndex r ≡ internalIndex self offset ⌝ }
+        ensures { λ r. ⌜ toldIndex r ≡ internalIndex (self .count) offset ⌝ }
     {
         let index = offset / 100;
         if index < self.count {

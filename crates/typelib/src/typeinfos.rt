@@ -9,17 +9,15 @@ use records::answer::PlaceAnswer;
 use records::answer::U16Answer;
 use records::answer::U32Answer;
 use records::field;
+use records::field::LIMIT;
 use records::typeinfo::TypeInfoEntry;
+use util::NEGATIVE;
 ghost use mathlib.Core.Path.{_≡_};
 ghost use Prim.Native.Nat.{_+_, _*_, _<_};
 ghost use Rattle.records.specs.Record.{signed32};
 ghost use Rattle.records.specs.Told.{toldI32, toldPlace, toldU32};
 ghost use Rattle.typelib.specs.Told.{toldCounts, toldOffset, toldTypeInfo};
 ghost use Rattle.typelib.specs.TypeInfos.{offsetWord, typeinfoOffset, typeinfoIn, typeinfoOf, countsOf, auxIn, auxAt, funcMemid, varMemid, funcNameOffset, varNameOffset, funcName, varName};
-
-const LIMIT: usize = 16_777_216;
-
-const NEGATIVE: u32 = 0x8000_0000;
 
 const TYPEINFO_TABLE: usize = 0;
 
@@ -77,7 +75,7 @@ impl TypeLib {
         if NEGATIVE <= offset {
             return TypeInfoAnswer::Refused(6);
         }
-        match self.segment(TYPEINFO_TABLE) {
+        match self.segment(s, TYPEINFO_TABLE) {
             PlaceAnswer::Value(table) => match crate::place_in(s, table, offset, 0x64, false) {
                 PlaceAnswer::Value(place) => TypeInfoAnswer::Value(TypeInfoEntry {
                     at: place.at,

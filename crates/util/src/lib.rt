@@ -15,6 +15,9 @@ ghost use Rattle.util.specs.Told.{toldU16, toldU32, toldU64, toldI16, to
 
 pub mod utf8;
 
+// From this number on, a 32-bit pattern is that of a negative number.
+pub const NEGATIVE: u32 = 0x8000_0000;
+
 pub enum U16Read {
     Value(u16),
     Nothing,
@@ -230,7 +233,7 @@ pub fn signed16(x: u16) -> i16
 pub fn signed32(x: u32) -> i32
     ensures { λ r. ⌜ r ≡ toZ w32 x ⌝ }
 {
-    if x < 0x8000_0000 {
+    if x < NEGATIVE {
         x as i32
     } else {
         !((0xffff_ffff - x) as i32)

@@ -6,11 +6,11 @@ use Rattle.cursors.proofs.iterators.imp_files.Tie as tie
 table-requires : tie.Need-table-requires
 table-requires c κs = search needs
 
-add-t3 : tie.Need-add-t3
-add-t3 c = search needs
+add-t4 : tie.Need-add-t4
+add-t4 c = search needs
 
 returns : tie.Need-returns
 returns c = let e = c .before .table .ensures .0 in cc (e)
 
 pub imp-files-spec : {M : Type 1} → statement M
-imp-files-spec = tie.close (tie.spec table-requires add-t3 returns)
+imp-files-spec = tie.close (tie.spec table-requires add-t4 returns)

@@ -1,7 +1,7 @@
 use Rattle.records.specs.Answer.{value}
 use Rattle.typelib.specs.declared.TypeLib.{TypeLib}
 use Rattle.typelib.specs.HeaderLaws.{parse-long, parse-short, parse-magic, parse-count, parse-directory, parse-library}
-use Rattle.typelib.specs.Header.{parsed, word, signature, tableAt, directoryAt, segmentsAt, libraryOf}
+use Rattle.typelib.specs.Header.{parsed, libraryOf}
 use Rattle.util.specs.Read.{read-zero}
 use Prim.Native.Nat.{_+_, _≤_}
 use lib.ListN.{length}
@@ -65,12 +65,16 @@ refusal-requires-5 c κs = search needs
 returns-5 : tie.Need-returns-5
 returns-5 c = let m = (read-zero 4 (c .before .before .before .before .before .before .before .before .before .before .args .s .now) 0 _ (omega arith) (c .before .before .before .before .before .before .u32-or-zero .ensures)) in let n = (read-zero 4 (c .before .before .before .before .before .before .before .before .before .before .args .s .now) 32 _ (omega arith) (c .before .before .before .before .u32-or-zero2 .ensures)) in let t = c .before .before .table-start .ensures .0 in c .refusal5 .ensures ∙ ap parsed (parse-directory (c .before .before .before .before .before .before .before .before .before .before .args .s .now) (c .before .before .before .before .before .before .before .before .if1 .left) (c .before .before .before .before .before .before .before .if2 .left) (omega arith) (omega arith) (omega arith))
 
-directory-requires : tie.Need-directory-requires
-directory-requires c κs = search needs
-
 returns-6 : tie.Need-returns-6
 unfolding libraryOf
-returns-6 c = let s = (c .before .before .before .before .before .before .before .before .before .before .args .s .now) in let m = (read-zero 4 (c .before .before .before .before .before .before .before .before .before .before .args .s .now) 0 _ (omega arith) (c .before .before .before .before .before .before .u32-or-zero .ensures)) in let n = (read-zero 4 (c .before .before .before .before .before .before .before .before .before .before .args .s .now) 32 _ (omega arith) (c .before .before .before .before .u32-or-zero2 .ensures)) in let t = c .before .before .table-start .ensures .0 in let d : c .directory .result ≡ segmentsAt s (directoryAt s) = c .directory .ensures ∙ ap (segmentsAt s) (omega arith) in let l : _≡_ {A = TypeLib} (record { segments = c .directory .result; count = c .before .before .before .before .u32-or-zero2 .result; table = c .before .before .table-start .result }) (libraryOf s) = cc (d, n, t) in ap (λ (x : TypeLib). parsed (value x)) l ∙ ap parsed (parse-library s (c .before .before .before .before .before .before .before .before .if1 .left) (c .before .before .before .before .before .before .before .if2 .left) (omega arith) (omega arith) (omega arith))
+returns-6 c =
+    let s = c .before .before .before .before .before .before .before .before .before .args .s .now in
+    let m = read-zero 4 s 0 _ (omega arith) (c .before .before .before .before .before .u32-or-zero .ensures) in
+    let n = read-zero 4 s 32 _ (omega arith) (c .before .before .before .u32-or-zero2 .ensures) in
+    let t = c .before .table-start .ensures .0 in
+    let l : _≡_ {A = TypeLib} (record { count = c .before .before .before .u32-or-zero2 .result; table = c .before .table-start .result }) (libraryOf s) = cc (n, t) in
+    ap (λ (x : TypeLib). parsed (value x)) l
+    ∙ ap parsed (parse-library s (c .before .before .before .before .before .before .before .if1 .left) (c .before .before .before .before .before .before .if2 .left) (omega arith) (omega arith) (omega arith))
 
 pub parse-spec : {M : Type 1} → statement M
 parse-spec =
@@ -94,5 +98,4 @@ parse-spec =
     add-if5
     refusal-requires-5
     returns-5
-    directory-requires
     returns-6)
