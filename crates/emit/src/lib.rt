@@ -152,12 +152,6 @@ pub fn word_at(s: &[u8], at: usize, offset: u32) -> u32
     0
 }
 
-pub fn copy_u16(s: &[u8], at: usize, offset: u32, out: &mut [u8], to: usize) -> usize
-    ensures { λ r. ⌜ Emitted (value (leBytes 2 (orZero (read 2 (now (s .entry)) (at + offset))))) (put to) (now (out .entry)) (put r) (now (out .exit)) ⌝ }
-{
-    put_u16(out, to, half_at(s, at, offset))
-}
-
 pub fn copy_u32(s: &[u8], at: usize, offset: u32, out: &mut [u8], to: usize) -> usize
     ensures { λ r. ⌜ Emitted (value (leBytes 4 (orZero (read 4 (now (s .entry)) (at + offset))))) (put to) (now (out .entry)) (put r) (now (out .exit)) ⌝ }
 {

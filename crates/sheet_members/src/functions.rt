@@ -94,11 +94,7 @@ fn put_function(
     let t = values::put_opt_memid(memid, out, to);
     let t = values::put_name_by(s, lib, name_offset, out, t);
     let field = emit::word_at(s, func.at, 0x04);
-    let t = if crate::NEGATIVE <= field {
-        trees::put_inline(s, field, out, t)
-    } else {
-        trees::put_tree(s, lib, field, out, t)
-    };
+    let t = trees::put_tree(s, lib, field, out, t);
     let t = put_words(s, func.at, out, t);
     parameters::put_parameters(s, lib, func, out, t)
 }

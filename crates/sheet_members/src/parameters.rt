@@ -81,11 +81,7 @@ fn put_parameter(
 {
     let flags = emit::word_at(s, param.at, 0x08);
     let field = emit::word_at(s, param.at, 0x00);
-    let t = if crate::NEGATIVE <= field {
-        trees::put_inline(s, field, out, to)
-    } else {
-        trees::put_tree(s, lib, field, out, to)
-    };
+    let t = trees::put_tree(s, lib, field, out, to);
     let t = values::put_opt_name(s, lib, emit::word_at(s, param.at, 0x04), out, t);
     if flags / 0x20 % 2 == 1 {
         let t = emit::put_u32(out, t, flags);

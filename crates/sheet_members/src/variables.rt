@@ -83,11 +83,7 @@ fn put_variable(
     let t = values::put_opt_memid(lib.var_memid(s, ti, index), out, to);
     let t = values::put_name_by(s, lib, lib.var_name_offset(s, ti, index), out, t);
     let field = emit::word_at(s, var.at, 0x04);
-    let t = if crate::NEGATIVE <= field {
-        trees::put_inline(s, field, out, t)
-    } else {
-        trees::put_tree(s, lib, field, out, t)
-    };
+    let t = trees::put_tree(s, lib, field, out, t);
     let t = emit::copy_u32(s, var.at, 0x08, out, t);
     let t = emit::put_u16(out, t, varkind);
     put_value(s, lib, varkind, emit::word_at(s, var.at, 0x10), out, t)

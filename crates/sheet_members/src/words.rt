@@ -7,6 +7,7 @@ use records::field;
 use records::typeinfo::TypeInfoEntry;
 use typelib::typeinfos;
 use typelib::typeinfos::CountsAnswer;
+use util::NEGATIVE;
 ghost use mathlib.Core.Path.{_≡_};
 ghost use Prim.Native.Nat.{_+_, _*_, _≤_};
 ghost use lib.ListN.{length};
@@ -54,7 +55,7 @@ fn words_at(s: &[u8], ti: TypeInfoEntry) -> UsizeAnswer
 fn words_behind(s: &[u8], memoffset: u32) -> UsizeAnswer
     ensures { λ r. ⌜ toldUsize r ≡ map blockEnd (blockAt (now (s .entry)) memoffset) ⌝ }
 {
-    if crate::NEGATIVE <= memoffset {
+    if NEGATIVE <= memoffset {
         return UsizeAnswer::Refused(9);
     }
     match util::read_u32_le(s, memoffset as usize) {

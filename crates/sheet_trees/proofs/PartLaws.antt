@@ -1,16 +1,17 @@
 -- The bytes of `Parts` are those of the formats. Assumes nothing.
 use mathlib.Core.Path.{_≡_, refl, sym, ap, _∙_}
-use mathlib.Core.Bool.{Bool, true, false}
+use mathlib.Core.Bool.{Bool, true, false, cond}
 use mathlib.Core.Option.{Option, some, none}
 use mathlib.Core.List.{List, [], _∷_, _++_}
 use Prim.Native.Nat.{ℕ, zero, suc, _+_, _-_, _*_, _/_, _%_, _^_, _≤_, _<_}
 use native.Mathlib.Omega.{arith}
 use lib.IntN.{ℤ}
 use lib.ListN.{length}
-use borrow.Author.Tests.{eq-eqb, ne-eqb, le-leb, lt-leb}
+use lib.Dec.{ltb}
+use borrow.Author.Tests.{eq-eqb, ne-eqb, le-leb, lt-leb, eqb-true}
 use mir.Syntax.{w32}
 use mir.Val.{ofZ}
-use Rattle.util.specs.Read.{read, orZero}
+use Rattle.util.specs.Read.{read, orZero, cond-elim}
 use Rattle.records.specs.declared.answer.Place.{Place}
 use Rattle.records.specs.declared.answer.PlaceAnswer.{PlaceAnswer}
 use Rattle.records.specs.declared.answer.PlaceAnswer.the-variants as place
@@ -18,7 +19,7 @@ use Rattle.records.specs.declared.answer.I32Answer.{I32Answer}
 use Rattle.records.specs.declared.answer.I32Answer.the-variants as i32
 use Rattle.records.specs.Answer.{Answer, value, refused, map, bind}
 use Rattle.records.specs.Counted.{fileNameBytes}
-use Rattle.records.specs.Record.{limit, partOf}
+use Rattle.records.specs.Record.{limit, partOf, bitsOf, flagSet}
 use Rattle.records.specs.Told.{toldI32, toldPlace}
 use Rattle.typelib.specs.declared.TypeLib.{TypeLib}
 use Rattle.records.specs.declared.impfile.ImpFile.{ImpFile}
@@ -31,7 +32,8 @@ use Rattle.typelib.specs.declared.references.ResolvedHreftype.{ResolvedHreftype
 use Rattle.typelib.specs.Names.{guidPlace, nameBytes}
 use Rattle.typelib.specs.References.{Resolved, dispatchBit, cleared, internalIndex, resolvedAt, hrefResolved}
 use Rattle.typelib.specs.ReferenceLaws.{index-there, index-beyond, cleared-set, cleared-clear, resolved-internal as in-this-file}
-use Rattle.typelib.specs.TableLaws.{lent-fits}
+use Rattle.typelib.specs.Tables.{lent, negative}
+use Rattle.typelib.specs.TableLaws.{lent-long, lent-fits}
 use Rattle.typelib.specs.References.{internal as here, external}
 use Rattle.typelib.specs.Told.{toldImpFile, toldHreftype, toldResolved}
 use Rattle.description.specs.Format.{encode, opt, leBytes}
@@ -43,7 +45,7 @@ use Rattle.describe.specs.Members.{nameOf, nameBy, memidBy}
 use Rattle.emit.specs.Emit.{Put}
 use Rattle.emit.specs.Emit.{_▸_, Emitted}
 use Rattle.emit.specs.Laws.{byte-first}
-use Rattle.sheet_trees.specs.Parts.{optPart, referenceBytes, internalBytes, ownBytes, fileBytes, importBytes}
+use Rattle.sheet_trees.specs.Parts.{optPart, referenceBytes, internalBytes, indexBytes, hereBytes, ownBytes, fileBytes, importBytes}
 
 -- ---- parts that may be missing
 
@@ -188,33 +190,58 @@ module _ (s : List ℕ) (lib : TypeLib) where
 
 -- ---- references in this file
 
-module _ (s : List ℕ) (lib : TypeLib) (h : ℕ) where
-  pub unresolved : {m : ℕ} → refused m ≡ hrefResolved s lib h → value (0 ∷ []) ≡ value (encode (reference edition-one (lib .count)) (referenceOf s lib h))
-  unfolding referenceOf referenceFrom reference
-  unresolved q = rw (← q)
+module _ (s : List ℕ) (count h : ℕ) where
+  pub here-long : limit < length s → value (0 ∷ []) ≡ value (hereBytes s count h)
+  unfolding hereBytes
+  here-long l = ap (λ (a : Answer ℕ). value (indexBytes (bitsOf 24 1 h) a)) (lent-long _ _ l)
 
-  pub resolved-here : {b i : ℕ} → b ≡ h / 2 ^ 24 % 2 ^ 1 → value (here i) ≡ hrefResolved s lib h
-      → value (internalBytes b i) ≡ value (encode (reference edition-one (lib .count)) (referenceOf s lib h))
-  unfolding referenceBytes referenceOf
-  resolved-here {b} {i} g m = resolved-internal s lib b (here i) refl ∙ rw (g, m)
-
-  pub href-below-zero : length s ≤ limit → 0x80000000 ≤ h → refused 9 ≡ hrefResolved s lib h
-  href-below-zero l k = lent-fits _ _ _ l (rw (le-leb 0x80000000 h k))
-
-  href-in : (a : Answer Resolved) → length s ≤ limit → h < 0x80000000 → a ≡ resolvedAt s lib (cleared h) → a ≡ hrefResolved s lib h
-  href-in a l k e = lent-fits _ _ _ l (rw (lt-leb 0x80000000 h k) e)
+  pub here-negative : length s ≤ limit → 0x80000000 ≤ h → value (0 ∷ []) ≡ value (hereBytes s count h)
+  unfolding hereBytes
+  here-negative l k = ap (λ (a : Answer ℕ). value (indexBytes (bitsOf 24 1 h) a)) (lent-fits _ _ (refused 9) l (rw (le-leb 0x80000000 h k)))
 
   cleared-is : (b c : ℕ) → b ≡ h / 2 ^ 24 % 2 ^ 1 → c ≡ h - dispatchBit * b → c ≡ cleared h
   cleared-is zero c g e = let f : c ≡ h = omega arith in f ∙ cleared-clear h 0 (λ o. absurd (omega arith)) g
   cleared-is (suc zero) c g e = let f : c ≡ h - dispatchBit = omega arith in f ∙ cleared-set h 1 refl g
   cleared-is (suc (suc k)) c g e = absurd (omega arith)
 
-  module _ (b c : ℕ) (g : b ≡ h / 2 ^ 24 % 2 ^ 1) (e : c ≡ h - dispatchBit * b) (l : length s ≤ limit) (k : h < 0x80000000) (z : h % 4 ≡ 0) where
-    at-index : (a : Answer ℕ) → a ≡ internalIndex lib c → map here a ≡ hrefResolved s lib h
-    at-index a q = href-in _ l k (in-this-file s lib c _ (omega arith) (ap (map here) q) ∙ ap (resolvedAt s lib) (cleared-is b c g e))
+  module _ (b c : ℕ) (g : b ≡ h / 2 ^ 24 % 2 ^ 1) (e : c ≡ h - dispatchBit * b) (l : length s ≤ limit) (k : h < 0x80000000) where
+    here-is : (a : Answer ℕ) → a ≡ internalIndex count c → value (indexBytes b a) ≡ value (hereBytes s count h)
+    unfolding hereBytes
+    here-is a q =
+        let f : a ≡ internalIndex count (cleared h) = q ∙ ap (internalIndex count) (cleared-is b c g e) in
+        let i = lent-fits s (cond (negative h) (refused 9) (internalIndex count (cleared h))) a l (rw (lt-leb 0x80000000 h k) f) in
+        rw g (ap (λ (x : Answer ℕ). value (indexBytes (bitsOf 24 1 h) x)) i)
 
-    pub index-in : c / 100 < lib .count → value (here (c / 100)) ≡ hrefResolved s lib h
-    index-in lt = at-index (value (c / 100)) (index-there lib c lt)
+    pub here-index : c / 100 < count → value (internalBytes b (c / 100)) ≡ value (hereBytes s count h)
+    here-index lt = here-is (value (c / 100)) (index-there count c lt)
 
-    pub index-out : lib .count ≤ c / 100 → refused 9 ≡ hrefResolved s lib h
-    index-out le = at-index (refused 9) (index-beyond lib c le)
+    pub here-beyond : count ≤ c / 100 → value (0 ∷ []) ≡ value (hereBytes s count h)
+    here-beyond le = here-is (refused 9) (index-beyond count c le)
+
+-- an hreftype whose low two bits are clear is in this file
+module _ (s : List ℕ) (lib : TypeLib) (h : ℕ) where
+  in-this : (b : ℕ) (a : Answer ℕ) → indexBytes b a ≡ referenceBytes lib (referenceFrom s lib b (map here a))
+  unfolding internalBytes referenceBytes referenceFrom reference internal bit
+  in-this b (value i) = refl
+  in-this b (refused n) = refl
+
+  cleared-low : h % 4 ≡ 0 → cleared h % 4 ≡ 0
+  cleared-low z = cond-elim (λ (c : ℕ). c % 4 ≡ 0) (flagSet dispatchBit h) (h - dispatchBit) h (λ e. omega (arith, eqb-true (h / dispatchBit % 2) 1 e)) (λ _. z)
+
+  lent-map : (a : Answer ℕ) → map here (lent s (cond (negative h) (refused 9) a)) ≡ lent s (cond (negative h) (refused 9) (map here a))
+  unfolding lent
+  lent-map a = by (ltb limit (length s)) (negative h)
+    where
+      by : (x y : Bool) → map here (cond x (refused 1) (cond y (refused 9) a)) ≡ cond x (refused 1) (cond y (refused 9) (map here a))
+      by true y = refl
+      by false true = refl
+      by false false = refl
+
+  pub here-referred : h % 4 ≡ 0 → value (hereBytes s (lib .count) h) ≡ value (encode (reference edition-one (lib .count)) (referenceOf s lib h))
+  unfolding hereBytes referenceBytes referenceOf
+  here-referred z =
+      let i = internalIndex (lib .count) (cleared h) in
+      let r : map here i ≡ resolvedAt s lib (cleared h) = in-this-file s lib (cleared h) (map here i) (cleared-low z) refl in
+      ap value (in-this (bitsOf 24 1 h) (lent s (cond (negative h) (refused 9) i)))
+      ∙ ap (λ (a : Answer Resolved). value (referenceBytes lib (referenceFrom s lib (bitsOf 24 1 h) a)))
+      (lent-map i ∙ ap (λ (a : Answer Resolved). lent s (cond (negative h) (refused 9) a)) r)

@@ -1,11 +1,14 @@
 -- A tree is its head, and then the tree under it. Assumes nothing.
 use mathlib.Core.Path.{_≡_, refl, sym, ap, _∙_}
+use mathlib.Core.Bool.{Bool, true, false, cond}
 use mathlib.Core.Option.{Option, some, none}
 use mathlib.Core.List.{List, [], _∷_, _++_, append-nil}
 use Prim.Native.Nat.{ℕ, zero, suc, _+_, _-_, _≤_, _<_}
 use native.Mathlib.Nat.{add-zero}
 use native.Mathlib.Omega.{arith}
+use lib.Dec.{ltb}
 use lib.ListN.{length}
+use borrow.Author.Tests.{ltb-true, ltb-false}
 use mir.Syntax.{w32}
 use mir.Val.{ofZ}
 use Rattle.util.specs.Read.{read, orZero}
@@ -30,7 +33,7 @@ use Rattle.emit.specs.Emit.{_▸_, Emitted}
 use Rattle.emit.specs.Laws.{join, skip, known}
 use Rattle.sheet_trees.specs.declared.trees.Inner.{Inner}
 use Rattle.sheet_trees.specs.declared.trees.Inner.the-variants as inner
-use Rattle.sheet_trees.specs.Parts.{dimensionsBytes, arrayBytes, headBytes, innerOf, toldInner}
+use Rattle.sheet_trees.specs.Parts.{dimensionsBytes, arrayBytes, headBytes, baseBytes, inlineBytes, innerOf, toldInner}
 
 -- ---- dimensions
 
@@ -137,13 +140,24 @@ module _ (s : List ℕ) (lib : TypeLib) where
         → value (headBytes s lib a ++ []) ≡ map (encode (tree edition-one (lib .count))) (treeOf s lib field)
     headed {a} e f = sym (step 32 field (λ z. omega (arith, z)) e ∙ ap (λ (i : Option ℕ). value (headBytes s lib a) ▸ rest 31 (nestedOf s lib 31) i) f) ∙ whole-tree field
 
-    -- nothing is looked up in a library that is too long
-    pub long-tree : limit < length s → value (0 ∷ []) ≡ map (encode (tree edition-one (lib .count))) (treeOf s lib field)
-    unfolding headBytes innerOf
-    long-tree h = headed {a = refused 1} (lent-long _ _ h) refl
+    inline-by : 0x80000000 ≤ field → (b : Bool) → ltb limit (length s) ≡ b
+        → value (baseBytes (cond b (refused 1) (value (bitsOf 0 12 field)))) ≡ map (encode (tree edition-one (lib .count))) (treeOf s lib field)
+    unfolding headBytes innerOf leBytes
+    inline-by k true e = headed {a = refused 1} (lent-long _ _ (ltb-true limit (length s) e)) refl
+    inline-by k false e =
+        headed {a = value (type.Base (bitsOf 0 12 field))} (lent-fits _ _ _ (ltb-false limit (length s) e) (field-base s lib field (bitsOf 0 12 field) k refl)) refl
 
     -- a negative field is a base type
-    pub base-tree : {code : ℕ} → length s ≤ limit → 0x80000000 ≤ field → code ≡ bitsOf 0 12 field
-        → value (1 ∷ leBytes 2 code) ≡ map (encode (tree edition-one (lib .count))) (treeOf s lib field)
-    unfolding headBytes innerOf leBytes
-    base-tree {code} h k e = headed {a = value (type.Base code)} (lent-fits _ _ _ h (field-base s lib field code k e)) refl
+    pub inline-tree : 0x80000000 ≤ field → value (inlineBytes s field) ≡ map (encode (tree edition-one (lib .count))) (treeOf s lib field)
+    unfolding inlineBytes lent
+    inline-tree k = inline-by k (ltb limit (length s)) refl
+
+-- the cases of `inlineBytes`
+module _ (s : List ℕ) (field : ℕ) where
+  pub inline-long : limit < length s → value (0 ∷ []) ≡ value (inlineBytes s field)
+  unfolding inlineBytes
+  inline-long h = ap (λ (a : Answer ℕ). value (baseBytes a)) (lent-long _ _ h)
+
+  pub inline-base : {code : ℕ} → length s ≤ limit → code ≡ bitsOf 0 12 field → value (1 ∷ leBytes 2 code) ≡ value (inlineBytes s field)
+  unfolding inlineBytes
+  inline-base {code} h e = ap (λ (a : Answer ℕ). value (baseBytes a)) (lent-fits _ _ (value code) h (ap value e))

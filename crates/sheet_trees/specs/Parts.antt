@@ -1,6 +1,6 @@
 -- The bytes of the parts that a record's numbers name, as the emitters write them; `Laws` proves that they are those of the formats
 -- of `description`. Assumes nothing.
-use mathlib.Core.Bool.{Bool}
+use mathlib.Core.Bool.{Bool, cond}
 use mathlib.Core.Option.{Option, some, none}
 use mathlib.Core.List.{List, [], _∷_, _++_}
 use Prim.Native.Nat.{ℕ, _+_}
@@ -12,7 +12,10 @@ use Rattle.records.specs.declared.types.TypeDescription.{TypeDescription}
 use Rattle.records.specs.declared.types.TypeDescription.the-variants as type
 use Rattle.records.specs.Answer.{Answer, value, refused, map}
 use Rattle.records.specs.Layout.{sizeOf, arrayDesc}
+use Rattle.records.specs.Record.{bitsOf}
 use Rattle.typelib.specs.declared.TypeLib.{TypeLib}
+use Rattle.typelib.specs.Tables.{lent, negative}
+use Rattle.typelib.specs.References.{internalIndex, cleared}
 use Rattle.description.specs.Format.{encode, opt, joined, leBytes}
 use Rattle.description.specs.Description.{Bytes, Own, Import, Reference}
 use Rattle.description.specs.Description.Reference.{imported}
@@ -36,6 +39,15 @@ referenceBytes lib r = encode (reference edition-one (lib .count)) r
 unfoldable pub internalBytes : ℕ → ℕ → Bytes
 internalBytes bit index = 1 ∷ (leBytes 1 bit ++ leBytes 2 index)
 
+-- a typeinfo of this library, or nothing
+abbrev pub indexBytes : ℕ → Answer ℕ → Bytes
+indexBytes bit (value index) = internalBytes bit index
+indexBytes bit (refused n) = 0 ∷ []
+
+-- the reference of an hreftype to one of this library's `count` typeinfos
+unfoldable pub hereBytes : List ℕ → ℕ → ℕ → Bytes
+hereBytes s count h = indexBytes (bitsOf 24 1 h) (lent s (cond (negative h) (refused 9) (internalIndex count (cleared h))))
+
 unfoldable pub ownBytes : (b : Bool) → Own b → Bytes
 ownBytes b x = encode (own b) x
 
@@ -48,6 +60,15 @@ unfoldable pub importBytes : Import → Bytes
 importBytes r = encode (reference edition-one 0) (imported r)
 
 -- ---- trees
+
+-- a base type, or nothing
+abbrev pub baseBytes : Answer ℕ → Bytes
+baseBytes (value code) = 1 ∷ leBytes 2 code
+baseBytes (refused n) = 0 ∷ []
+
+-- a negative type field, which is a base type: its code is the low 12 bits
+unfoldable pub inlineBytes : List ℕ → ℕ → Bytes
+inlineBytes s field = baseBytes (lent s (value (bitsOf 0 12 field)))
 
 unfoldable pub dimensionsBytes : List ℕ → ℕ → ℕ → Bytes
 dimensionsBytes s at n = joined dimension (dimensionsAt s at n)

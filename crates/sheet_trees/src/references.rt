@@ -1,6 +1,7 @@
 // References.
 use crate::values;
 use records::answer::PlaceAnswer;
+use records::field::LIMIT;
 use records::impfile::ImpFile;
 use records::impinfo::ImpInfo;
 use typelib::TypeInfoIndex;
@@ -8,11 +9,10 @@ use typelib::TypeLib;
 use typelib::references::ImpFileAnswer;
 use typelib::references::ResolvedAnswer;
 use typelib::references::ResolvedHreftype;
+use util::NEGATIVE;
 ghost use mathlib.Core.Path.{_≡_};
 ghost use mathlib.Core.List.{_++_, _∷_};
-ghost use Prim.Native.Nat.{_%_};
 ghost use Rattle.records.specs.Answer.{value};
-ghost use Rattle.typelib.specs.declared.TypeLib.{TypeLib as Lib};
 ghost use Rattle.records.specs.Layout.{impInfo};
 ghost use Rattle.records.specs.Told.{toldPlace};
 ghost use Rattle.typelib.specs.Told.{toldImpFile, toldHreftype};
@@ -21,20 +21,18 @@ ghost use Rattle.description.specs.Description.{ownIsGuid};
 ghost use Rattle.description.specs.Sheet.{edition-one, own, file, reference};
 ghost use Rattle.describe.specs.References.{fileOf, fileAt, ownOf, importOf, referenceFrom, referenceOf};
 ghost use Rattle.emit.specs.Emit.{Emitted, put};
-ghost use Rattle.sheet_trees.specs.Parts.{ownBytes, fileBytes, importBytes, internalBytes, referenceBytes};
-
-// The most bytes that a library has.
-const LIMIT: usize = 16_777_216;
-
-const NEGATIVE: u32 = 0x8000_0000;
+ghost use Rattle.sheet_trees.specs.Parts.{ownBytes, fileBytes, hereBytes, importBytes, internalBytes, referenceBytes};
 
 // The bit of a dispatch interface's reference.
 const DISPATCH_BIT: u32 = 0x0100_0000;
 
-// The reference of an hreftype.
+// The reference of an hreftype. (Most have their low two bits clear, and need no table.)
 pub fn put_reference(s: &[u8], lib: TypeLib, href: u32, out: &mut [u8], to: usize) -> usize
     ensures { λ r. ⌜ Emitted (value (encode (reference edition-one (lib .count)) (referenceOf (now (s .entry)) lib href))) (put to) (now (out .entry)) (put r) (now (out .exit)) ⌝ }
 {
+    if util::bits(href, 0, 2) == 0 {
+        return put_in_this_file(s, lib.count, href, out, to);
+    }
     let bit = util::bits(href, 24, 1);
     match lib.resolve_hreftype_full(s, util::signed32(href)) {
         ResolvedAnswer::Value(r) => put_resolved(s, lib, bit, r, out, to),
@@ -42,10 +40,9 @@ pub fn put_reference(s: &[u8], lib: TypeLib, href: u32, out: &mut [u8], to: usiz
     }
 }
 
-// The same of an hreftype whose low two bits are clear, in a library of `count` typeinfos: a typeinfo of this library.
-// (Most are. Its caller saves a copy of the library's 128 bytes, which `put_reference` takes by value.)
-pub fn put_in_this_file(s: &[u8], count: u32, href: u32, out: &mut [u8], to: usize) -> usize
-    ensures { λ r. ⌜ ((lib : Lib) → lib .count ≡ count → href % 4 ≡ 0 → Emitted (value (encode (reference edition-one (lib .count)) (referenceOf (now (s .entry)) lib href))) (put to) (now (out .entry)) (put r) (now (out .exit))) ⌝ }
+// The reference of an hreftype to one of this library's `count` typeinfos.
+fn put_in_this_file(s: &[u8], count: u32, href: u32, out: &mut [u8], to: usize) -> usize
+    ensures { λ r. ⌜ Emitted (value (hereBytes (now (s .entry)) count href)) (put to) (now (out .entry)) (put r) (now (out .exit)) ⌝ }
 {
     if LIMIT < s.len() {
         return emit::put_u8(out, to, 0);

@@ -1,27 +1,25 @@
 // Trees.
 use crate::references;
 use records::arraydesc::ArrayDesc;
+use records::field::LIMIT;
 use records::types::TypeDescription;
 use typelib::TypeLib;
 use typelib::descriptors::DescriptionAnswer;
+use util::NEGATIVE;
 ghost use mathlib.Core.Path.{_≡_};
 ghost use mathlib.Core.List.{_++_, _∷_};
 ghost use Rattle.records.specs.Answer.{value, map};
-ghost use Rattle.typelib.specs.declared.TypeLib.{TypeLib as Lib};
 ghost use Rattle.typelib.specs.Told.{toldDescription};
-ghost use Prim.Native.Nat.{_+_, _≤_};
+ghost use Prim.Native.Nat.{_+_};
 ghost use Rattle.description.specs.Format.{encode, leBytes};
 ghost use Rattle.description.specs.Sheet.{edition-one, reference, nested, tree};
 ghost use Rattle.describe.specs.References.{referenceOf};
 ghost use Rattle.describe.specs.Trees.{nestedOf, treeOf};
 ghost use Rattle.emit.specs.Emit.{Emitted, put};
-ghost use Rattle.sheet_trees.specs.Parts.{arrayBytes, dimensionsBytes, headBytes, innerOf, toldInner};
+ghost use Rattle.sheet_trees.specs.Parts.{arrayBytes, dimensionsBytes, headBytes, inlineBytes, innerOf, toldInner};
 
 // The most descriptions that a tree nests.
 const LEVELS: usize = 32;
-
-// The most bytes that a library has.
-const LIMIT: usize = 16_777_216;
 
 // The type field under a description, if there is one.
 pub enum Inner {
@@ -29,11 +27,15 @@ pub enum Inner {
     Nothing,
 }
 
-// The tree of a type field.
+// The tree of a type field. (Most are negative, and need nothing but their own number.)
 pub fn put_tree(s: &[u8], lib: TypeLib, field: u32, out: &mut [u8], to: usize) -> usize
     ensures { λ r. ⌜ Emitted (map (encode (tree edition-one (lib .count))) (treeOf (now (s .entry)) lib field)) (put to) (now (out .entry)) (put r) (now (out .exit)) ⌝ }
 {
-    put_nested(s, lib, field, LEVELS, out, to)
+    if NEGATIVE <= field {
+        put_inline(s, field, out, to)
+    } else {
+        put_nested(s, lib, field, LEVELS, out, to)
+    }
 }
 
 // The same, of at most `levels` descriptions; refusal 11 where there are more.
@@ -51,10 +53,9 @@ fn put_nested(s: &[u8], lib: TypeLib, field: u32, levels: usize, out: &mut [u8],
     }
 }
 
-// The tree of a negative field, a base type. (Most fields are. Its caller saves a copy of the library's 128 bytes, which
-// `put_tree` takes by value.)
-pub fn put_inline(s: &[u8], field: u32, out: &mut [u8], to: usize) -> usize
-    ensures { λ r. ⌜ ((lib : Lib) → 0x80000000 ≤ field → Emitted (map (encode (tree edition-one (lib .count))) (treeOf (now (s .entry)) lib field)) (put to) (now (out .entry)) (put r) (now (out .exit))) ⌝ }
+// The base type that the low 12 bits of a negative field are.
+fn put_inline(s: &[u8], field: u32, out: &mut [u8], to: usize) -> usize
+    ensures { λ r. ⌜ Emitted (value (inlineBytes (now (s .entry)) field)) (put to) (now (out .entry)) (put r) (now (out .exit)) ⌝ }
 {
     if LIMIT < s.len() {
         emit::put_u8(out, to, 0)
@@ -101,11 +102,7 @@ fn put_user(s: &[u8], lib: TypeLib, href: u32, out: &mut [u8], to: usize) -> usi
     ensures { λ r. ⌜ Emitted (value (5 ∷ encode (reference edition-one (lib .count)) (referenceOf (now (s .entry)) lib href))) (put to) (now (out .entry)) (put r) (now (out .exit)) ⌝ }
 {
     let t = emit::put_u8(out, to, 5);
-    if util::bits(href, 0, 2) == 0 {
-        references::put_in_this_file(s, lib.count, href, out, t)
-    } else {
-        references::put_reference(s, lib, href, out, t)
-    }
+    references::put_reference(s, lib, href, out, t)
 }
 
 // A C array's descriptor: the count of its dimensions, and each.

@@ -1,11 +1,5 @@
-use Rattle.emit.specs.Laws.{known, join}
 use Rattle.sheet_members.proofs.MemberLaws.{variable-is}
-use Rattle.emit.specs.Emit.{Emitted, put}
-use Rattle.describe.specs.Trees.{treeOf}
-use Rattle.description.specs.Sheet.{edition-one, tree}
-use Rattle.description.specs.Format.{encode}
-use Rattle.records.specs.Answer.{map}
-use mathlib.Core.Logic.{⊎-elim}
+use Rattle.emit.specs.Laws.{known, join}
 use borrow.Author.Needs.{needs}
 use Rattle.sheet_members.proofs.variables.put_variable.Statement.{statement}
 use Rattle.sheet_members.proofs.variables.put_variable.Tie as tie
@@ -16,74 +10,63 @@ use Rattle.emit.proofs.half_at.Reads as half-at-reads
 use Rattle.emit.proofs.put_u16.Reads as put-u16-reads
 use Rattle.emit.proofs.word_at.Reads as word-at-reads
 use Rattle.sheet_members.proofs.variables.put_value.Reads as put-value-reads
-use Rattle.sheet_trees.proofs.trees.put_inline.Reads as put-inline-reads
 use Rattle.sheet_trees.proofs.trees.put_tree.Reads as put-tree-reads
 use Rattle.sheet_trees.proofs.values.put_name_by.Reads as put-name-by-reads
 use Rattle.sheet_trees.proofs.values.put_opt_memid.Reads as put-opt-memid-reads
 use Rattle.typelib.proofs.TypeLib.var_memid.Reads as var-memid-reads
 use Rattle.typelib.proofs.TypeLib.var_name_offset.Reads as var-name-offset-reads
 
--- src/variables.rt:81:9
+-- src/variables.rt:82:9
 half-at-requires : tie.Need-half-at-requires
 half-at-requires c κs = search needs
 
--- src/variables.rt:82:35
+-- src/variables.rt:83:35
 var-memid-requires : tie.Need-var-memid-requires
 var-memid-requires c κs = search needs
 
--- src/variables.rt:82:9
+-- src/variables.rt:83:9
 put-opt-memid-requires : tie.Need-put-opt-memid-requires
 put-opt-memid-requires c κs = search needs
 
--- src/variables.rt:83:41
+-- src/variables.rt:84:41
 var-name-offset-requires : tie.Need-var-name-offset-requires
 var-name-offset-requires c κs = search needs
 
--- src/variables.rt:83:9
+-- src/variables.rt:84:9
 put-name-by-requires : tie.Need-put-name-by-requires
 put-name-by-requires c κs = search needs
 
--- src/variables.rt:84:9
+-- src/variables.rt:85:9
 word-at-requires : tie.Need-word-at-requires
 word-at-requires c κs = search needs
 
 -- src/variables.rt:86:9
-put-inline-requires : tie.Need-put-inline-requires
-put-inline-requires c κs = search needs
-
--- src/variables.rt:88:9
 put-tree-requires : tie.Need-put-tree-requires
 put-tree-requires c κs = search needs
 
--- src/variables.rt:90:9
+-- src/variables.rt:87:9
 copy-u32-requires : tie.Need-copy-u32-requires
 copy-u32-requires c κs = search needs
 
--- src/variables.rt:91:9
+-- src/variables.rt:88:9
 put-u16-requires : tie.Need-put-u16-requires
 put-u16-requires c κs = search needs
 
--- src/variables.rt:92:32
+-- src/variables.rt:89:32
 word-at-requires-2 : tie.Need-word-at-requires-2
 word-at-requires-2 c κs = search needs
 
--- src/variables.rt:92:5
+-- src/variables.rt:89:5
 put-value-requires : tie.Need-put-value-requires
 put-value-requires c κs = search needs
 
--- the tree, by either way
-typed : (c : tie.Joined1) → Emitted (map (encode (tree edition-one (c .before .before .before .before .before .before .before .before .before .before .before .before .before .before .before .args .lib .count))) (treeOf (c .before .before .before .before .before .before .before .before .before .before .before .before .before .before .before .args .s .now) (c .before .before .before .before .before .before .before .before .before .before .before .before .before .before .before .args .lib) (c .before .word-at .result))) (put (c .before .before .before .before .put-name-by .result)) (c .before .before .before .before .put-name-by .last .1 .1 .1 .0) (put (c .if1 .t)) (c .if1 .out)
-typed c =
-    ⊎-elim (λ w. rw (w .5, w .6) (w .2 .ensures (c .before .before .before .before .before .before .before .before .before .before .before .before .before .before .before .args .lib) (w .0 .taken))) (λ w. rw (w .5, w .6) (w .2 .ensures))
-    (c .if1 .came)
-
--- src/variables.rt:70:1
+-- src/variables.rt:71:1
 same-length : tie.Need-same-length
-same-length c = (join (c .before .before .before .before .before .before .before .before .before .before .before .before .before .before .before .before .before .before .before .before .before .before .put-opt-memid .ensures) (join (c .before .before .before .before .before .before .before .before .before .before .before .before .before .before .before .before .before .put-name-by .ensures) (join (typed (c .before .before .before .before .before .before .before .before .before .before .before .before .before)) (join (c .before .before .before .before .before .before .before .before .before .before .before .copy-u32 .ensures) (join (c .before .before .before .before .before .before .before .put-u16 .ensures) (c .before .before .put-value .ensures)))))) .keeps
+same-length c = search needs
 
--- src/variables.rt:70:1
+-- src/variables.rt:71:1
 returns : tie.Need-returns
-returns c = known (variable-is _ _ _ _ _ _ _ (c .before .before .before .before .before .before .before .before .before .before .before .before .before .before .before .before .before .before .before .before .before .before .before .before .var-memid .ensures) (c .before .before .before .before .before .before .before .before .before .before .before .before .before .before .before .before .before .before .before .var-name-offset .ensures) (c .before .before .before .before .before .before .before .before .before .before .before .before .before .before .word-at .ensures) (c .before .before .before .before .before .before .before .before .before .before .before .before .before .before .before .before .before .before .before .before .before .before .before .before .before .half-at .ensures) (c .before .before .before .before .word-at2 .ensures)) (join (c .before .before .before .before .before .before .before .before .before .before .before .before .before .before .before .before .before .before .before .before .before .before .put-opt-memid .ensures) (join (c .before .before .before .before .before .before .before .before .before .before .before .before .before .before .before .before .before .put-name-by .ensures) (join (typed (c .before .before .before .before .before .before .before .before .before .before .before .before .before)) (join (c .before .before .before .before .before .before .before .before .before .before .before .copy-u32 .ensures) (join (c .before .before .before .before .before .before .before .put-u16 .ensures) (c .before .before .put-value .ensures))))))
+returns c = known (variable-is _ _ _ _ _ _ _ (c .before .before .before .before .before .before .before .before .before .before .before .before .before .before .before .before .before .before .before .before .before .before .before .before .before .before .before .var-memid .ensures) (c .before .before .before .before .before .before .before .before .before .before .before .before .before .before .before .before .before .before .before .before .before .before .var-name-offset .ensures) (c .before .before .before .before .before .before .before .before .before .before .before .before .before .before .before .before .before .word-at .ensures) (c .before .before .before .before .before .before .before .before .before .before .before .before .before .before .before .before .before .before .before .before .before .before .before .before .before .before .before .before .half-at .ensures) (c .before .before .before .before .word-at2 .ensures)) (join (c .before .before .before .before .before .before .before .before .before .before .before .before .before .before .before .before .before .before .before .before .before .before .before .before .before .put-opt-memid .ensures) (join (c .before .before .before .before .before .before .before .before .before .before .before .before .before .before .before .before .before .before .before .before .put-name-by .ensures) (join (c .before .before .before .before .before .before .before .before .before .before .before .before .before .before .before .put-tree .ensures) (join (c .before .before .before .before .before .before .before .before .before .before .before .copy-u32 .ensures) (join (c .before .before .before .before .before .before .before .put-u16 .ensures) (c .before .before .put-value .ensures))))))
 
 pub put-variable-spec : {M : Type 1} → statement M
 put-variable-spec =
@@ -95,7 +78,6 @@ put-variable-spec =
     var-name-offset-requires
     put-name-by-requires
     word-at-requires
-    put-inline-requires
     put-tree-requires
     copy-u32-requires
     put-u16-requires

@@ -1,9 +1,8 @@
-use mathlib.Core.Path.{_≡_, refl}
-use Prim.Native.Nat.{_-_, _*_}
-use native.Mathlib.Omega.{arith}
+use Rattle.sheet_trees.proofs.PartLaws.{here-long, here-negative, here-index, here-beyond}
 use Rattle.emit.specs.Laws.{known}
-use Rattle.typelib.specs.TableLaws.{lent-long}
-use Rattle.sheet_trees.proofs.PartLaws.{unresolved, resolved-here, href-below-zero, index-in, index-out}
+use native.Mathlib.Omega.{arith}
+use Prim.Native.Nat.{_-_, _*_}
+use mathlib.Core.Path.{_≡_, refl}
 use borrow.Author.Needs.{needs}
 use Rattle.sheet_trees.proofs.references.put_in_this_file.Statement.{statement}
 use Rattle.sheet_trees.proofs.references.put_in_this_file.Tie as tie
@@ -13,78 +12,69 @@ use Rattle.emit.proofs.put_u8.Reads as put-u8-reads
 use Rattle.sheet_trees.proofs.references.put_internal.Reads as put-internal-reads
 use Rattle.util.proofs.bits.Reads as bits-reads
 
--- src/references.rt:51:9
+-- src/references.rt:48:9
 put-u8-requires : tie.Need-put-u8-requires
 put-u8-requires c κs = search needs
 
--- src/references.rt:51:9
+-- src/references.rt:48:9
 same-length : tie.Need-same-length
 same-length c = search needs
 
--- src/references.rt:51:9
+-- src/references.rt:48:9
 returns : tie.Need-returns
-returns c = λ lib n z. known (unresolved _ lib _ (lent-long _ _ (c .before .before .before .before .if1 .taken))) (c .before .before .put-u8 .ensures)
+returns c = known (here-long _ _ _ (c .before .before .before .before .if1 .taken)) (c .before .before .put-u8 .ensures)
 
--- src/references.rt:54:9
+-- src/references.rt:51:9
 put-u8-requires-2 : tie.Need-put-u8-requires-2
 put-u8-requires-2 c κs = search needs
 
--- src/references.rt:54:9
+-- src/references.rt:51:9
 same-length-2 : tie.Need-same-length-2
 same-length-2 c = search needs
 
--- src/references.rt:54:9
+-- src/references.rt:51:9
 returns-2 : tie.Need-returns-2
-returns-2 c = λ lib n z. known (unresolved _ lib _ (href-below-zero _ lib _ (c .before .before .before .before .before .if1 .left) (c .before .before .before .before .if2 .taken))) (c .before .before .put-u82 .ensures)
+returns-2 c = known (here-negative _ _ _ (c .before .before .before .before .before .if1 .left) (c .before .before .before .before .if2 .taken)) (c .before .before .put-u82 .ensures)
 
--- src/references.rt:56:9
+-- src/references.rt:53:9
 bits-requires : tie.Need-bits-requires
 bits-requires c κs = search needs
 
--- src/references.rt:57:25
+-- src/references.rt:54:25
 mul-index : tie.Need-mul-index
 mul-index c = search needs
 
--- src/references.rt:57:18
+-- src/references.rt:54:18
 sub-index : tie.Need-sub-index
 sub-index c = search needs
 
--- src/references.rt:59:41
+-- src/references.rt:56:41
 cast-t17 : tie.Need-cast-t17
 cast-t17 c = search needs
 
--- src/references.rt:59:9
+-- src/references.rt:56:9
 put-internal-requires : tie.Need-put-internal-requires
 put-internal-requires c κs = search needs
 
--- src/references.rt:61:9
+-- src/references.rt:58:9
 put-u8-requires-3 : tie.Need-put-u8-requires-3
 put-u8-requires-3 c κs = search needs
 
--- src/references.rt:47:1
+-- src/references.rt:44:1
 same-length-3 : tie.Need-same-length-3
 same-length-3 c = search needs
 
--- src/references.rt:47:1
+-- src/references.rt:44:1
 returns-3 : tie.Need-returns-3
-returns-3 c = λ lib n z.
-    let s = c .before .before .before .before .before .before .before .before .before .before .args .s .now in
-    let h = c .before .before .before .before .before .before .before .before .before .before .args .href in
-    let b = c .before .before .before .before .before .bits .result in
-    let e = index-in s lib h b (h - 16777216 * b) (c .before .before .before .before .before .bits .ensures) refl (c .before .before .before .before .before .before .before .if1 .left) (omega arith) z (omega (arith, n)) in
-    known (resolved-here s lib h (c .before .before .before .before .before .bits .ensures) e) (c .before .before .put-internal .ensures)
+returns-3 c = known (here-index _ _ _ _ _ (c .before .before .before .before .before .bits .ensures) refl (c .before .before .before .before .before .before .before .if1 .left) (omega arith) (c .before .before .before .before .if3 .taken)) (c .before .before .put-internal .ensures)
 
--- src/references.rt:47:1
+-- src/references.rt:44:1
 same-length-4 : tie.Need-same-length-4
 same-length-4 c = search needs
 
--- src/references.rt:47:1
+-- src/references.rt:44:1
 returns-4 : tie.Need-returns-4
-returns-4 c = λ lib n z.
-    let s = c .before .before .before .before .before .before .before .before .before .before .args .s .now in
-    let h = c .before .before .before .before .before .before .before .before .before .before .args .href in
-    let b = c .before .before .before .before .before .bits .result in
-    known (unresolved s lib h (index-out s lib h b (h - 16777216 * b) (c .before .before .before .before .before .bits .ensures) refl (c .before .before .before .before .before .before .before .if1 .left) (omega arith) z (omega (arith, n)))) (c .before .before .put-u83 .ensures)
+returns-4 c = known (here-beyond _ _ _ _ _ (c .before .before .before .before .before .bits .ensures) refl (c .before .before .before .before .before .before .before .if1 .left) (omega arith) (c .before .before .before .before .if3 .left)) (c .before .before .put-u83 .ensures)
 
 pub put-in-this-file-spec : {M : Type 1} → statement M
 put-in-this-file-spec =
