@@ -1,4 +1,3 @@
 -- Laws that the emitters cite.
-pub mod TypeLaws
 pub mod ContentLaws
 pub mod CallLaws

@@ -1,3 +1,2 @@
 -- What the sheet call emits.
-pub mod Types
 pub mod Contents

@@ -1,7 +1,7 @@
 // The contents and the bodies of a sheet. The contents are the count of types and the length of each body; a length is known
 // once its body is emitted, and is put into the contents then.
-use crate::types;
 use sheet_trees::values;
+use sheet_types::types;
 use typelib::TypeLib;
 ghost use mathlib.Core.Path.{_≡_};
 ghost use Prim.Native.Nat.{_+_, _*_, _≤_};

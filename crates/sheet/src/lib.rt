@@ -10,9 +10,7 @@ ghost use Rattle.describe.specs.Call.{Call};
 ghost use Rattle.emit.specs.Emit.{put, moved};
 ghost use Rattle.sheet.specs.Contents.{sheetEmitted, Answered};
 
-mod bases;
 mod contents;
-mod types;
 
 const LIMIT: usize = 16_777_216;
 

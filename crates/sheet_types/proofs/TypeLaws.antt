@@ -16,7 +16,7 @@ use Rattle.cursors.specs.declared.impltypes.ImplTypeCursor.{ImplTypeCursor}
 use Rattle.cursors.specs.Chain.{implTypesOf, offsetAt, endsAt, walkOf, placeAt, recordsOf, cursorAt, implTypeStep}
 use Rattle.cursors.specs.ChainLaws.{getD-tabulate, walk-took, step-along}
 use Rattle.cursors.specs.Cursors.{Step, yielded, ended}
-use Rattle.typelib.specs.Tabulate.{tabulate, length-tabulate}
+use Rattle.cursors.specs.Tabulate.{tabulate, length-tabulate}
 use Rattle.typelib.specs.TypeInfos.{typeinfoOf}
 use Rattle.description.specs.Format.{encode, opt, list, joined, leBytes}
 use Rattle.description.specs.Description.{Bytes, BaseShape, baseShapeOf, Base, Function, Variable, ImplType, TypeInfo}
@@ -29,7 +29,7 @@ use Rattle.describe.specs.Members.{nameOf, functionsOf, variablesOf}
 use Rattle.describe.specs.Types.{implTypeAt, implTypesAt, baseOf, kindAt, typeWith, typeAt, typeOf}
 use Rattle.emit.specs.Emit.{Put}
 use Rattle.emit.specs.Emit.{_▸_, Emitted}
-use Rattle.sheet.specs.Types.{shapeEmitted, baseEmitted, chainEmitted, linksBytes, headBytes, namesBytes}
+use Rattle.sheet_types.specs.Types.{shapeEmitted, baseEmitted, chainEmitted, linksBytes, headBytes, namesBytes}
 
 pub head-is : (s : List ℕ) (at kind : ℕ)
     → value (leBytes 1 kind) ▸ (value (leBytes 4 (orZero (read 4 s (at + 48)))) ▸ value (leBytes 4 (orZero (read 4 s (at + 56))))) ≡ value (headBytes s at kind)

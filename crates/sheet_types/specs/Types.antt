@@ -10,7 +10,7 @@ use Rattle.records.specs.Record.{bitsOf}
 use Rattle.typelib.specs.declared.TypeLib.{TypeLib}
 use Rattle.cursors.specs.declared.impltypes.ImplTypeCursor.{ImplTypeCursor}
 use Rattle.cursors.specs.Chain.{placeAt, recordsOf}
-use Rattle.typelib.specs.Tabulate.{tabulate}
+use Rattle.cursors.specs.Tabulate.{tabulate}
 use Rattle.description.specs.Format.{encode, opt, list, joined, leBytes}
 use Rattle.description.specs.Description.{Bytes, BaseShape, baseShapeOf}
 use Rattle.description.specs.Sheet.{edition-one, u16, u32, guid, name, implType, base}

@@ -16,10 +16,10 @@ ghost use Rattle.description.specs.Format.{encode, list};
 ghost use Rattle.description.specs.Sheet.{edition-one, u32, implType};
 ghost use Rattle.describe.specs.Types.{implTypeAt, implTypesAt};
 ghost use Rattle.emit.specs.Emit.{Emitted, put};
-ghost use Rattle.sheet.specs.Types.{baseEmitted, chainEmitted, linksBytes};
+ghost use Rattle.sheet_types.specs.Types.{baseEmitted, chainEmitted, linksBytes};
 
 // The base of a type of that kind.
-pub(crate) fn put_base(
+pub fn put_base(
     s: &[u8],
     lib: TypeLib,
     ti: TypeInfoEntry,
@@ -99,10 +99,6 @@ fn put_link(s: &[u8], lib: TypeLib, link: RefRecord, out: &mut [u8], to: usize) 
     ensures { λ r. ⌜ Emitted (value (encode (implType edition-one (lib .count)) (implTypeAt (now (s .entry)) lib (record { at = link .at; len = link .len })))) (put to) (now (out .entry)) (put r) (now (out .exit)) ⌝ }
 {
     let href = emit::word_at(s, link.at, 0x00);
-    let t = if util::bits(href, 0, 2) == 0 {
-        references::put_in_this_file(s, lib.count, href, out, to)
-    } else {
-        references::put_reference(s, lib, href, out, to)
-    };
+    let t = references::put_reference(s, lib, href, out, to);
     emit::copy_u32(s, link.at, 0x04, out, t)
 }

@@ -9,7 +9,7 @@ use Rattle.sheet.proofs.contents.put_types.Tie as tie
 use Rattle.sheet.proofs.contents.put_types.Reads as reads
 use Rattle.sheet.proofs.contents.put_types.Lts as lts
 use Rattle.sheet.proofs.contents.patch.Reads as patch-reads
-use Rattle.sheet.proofs.types.put_type_of.Reads as put-type-of-reads
+use Rattle.sheet_types.proofs.types.put_type_of.Reads as put-type-of-reads
 
 abbrev Inv-loop : tie.InvT-loop
 Inv-loop s lib out₀ to count t₀ i₀ out t i = LeftFrom s lib (lib .count) (put t₀) out₀ i (put t) out × (count ≡ lib .count)

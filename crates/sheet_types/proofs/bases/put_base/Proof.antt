@@ -1,14 +1,14 @@
-use Rattle.sheet.proofs.TypeLaws.{base-parent, base-chain, base-aliased, base-absent}
+use Rattle.sheet_types.proofs.TypeLaws.{base-parent, base-chain, base-aliased, base-absent}
 use Rattle.emit.specs.Laws.{known, skip}
 use Rattle.description.specs.Description.{baseShapeOf}
 use mathlib.Core.Path.{ap}
 use borrow.Author.Needs.{needs}
-use Rattle.sheet.proofs.bases.put_base.Statement.{statement}
-use Rattle.sheet.proofs.bases.put_base.Tie as tie
-use Rattle.sheet.proofs.bases.put_base.Reads as reads
-use Rattle.sheet.proofs.bases.put_base.Lts as lts
+use Rattle.sheet_types.proofs.bases.put_base.Statement.{statement}
+use Rattle.sheet_types.proofs.bases.put_base.Tie as tie
+use Rattle.sheet_types.proofs.bases.put_base.Reads as reads
+use Rattle.sheet_types.proofs.bases.put_base.Lts as lts
 use Rattle.emit.proofs.word_at.Reads as word-at-reads
-use Rattle.sheet.proofs.bases.put_chain.Reads as put-chain-reads
+use Rattle.sheet_types.proofs.bases.put_chain.Reads as put-chain-reads
 use Rattle.sheet_trees.proofs.references.put_reference.Reads as put-reference-reads
 use Rattle.sheet_trees.proofs.trees.put_tree.Reads as put-tree-reads
 

@@ -1,5 +1,5 @@
-use Rattle.sheet.proofs.TypeLaws.{At, at-start, at-next, at-place, at-end, links-more, links-none}
-use Rattle.sheet.specs.Types.{linksBytes}
+use Rattle.sheet_types.proofs.TypeLaws.{At, at-start, at-next, at-place, at-end, links-more, links-none}
+use Rattle.sheet_types.specs.Types.{linksBytes}
 use Rattle.emit.specs.Laws.{Left, left-all, left-less, left-none}
 use Rattle.emit.specs.Emit.{put}
 use Rattle.cursors.specs.Chain.{toldImplTypeStep}
@@ -8,11 +8,11 @@ use Rattle.records.specs.Answer.{value}
 use Prim.Native.Nat.{_-_}
 use native.Mathlib.Omega.{arith}
 use borrow.Author.Needs.{needs}
-use Rattle.sheet.proofs.bases.put_links.Statement.{statement}
-use Rattle.sheet.proofs.bases.put_links.Tie as tie
-use Rattle.sheet.proofs.bases.put_links.Reads as reads
-use Rattle.sheet.proofs.bases.put_links.Lts as lts
-use Rattle.sheet.proofs.bases.put_link.Reads as put-link-reads
+use Rattle.sheet_types.proofs.bases.put_links.Statement.{statement}
+use Rattle.sheet_types.proofs.bases.put_links.Tie as tie
+use Rattle.sheet_types.proofs.bases.put_links.Reads as reads
+use Rattle.sheet_types.proofs.bases.put_links.Lts as lts
+use Rattle.sheet_types.proofs.bases.put_link.Reads as put-link-reads
 use Rattle.cursors.proofs.impltypes.ImplTypeCursor.step.Reads as step-reads
 
 abbrev Inv-loop : tie.InvT-loop

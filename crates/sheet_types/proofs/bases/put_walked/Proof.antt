@@ -1,16 +1,16 @@
 use mathlib.Core.Path.{sym, _∙_}
-use Rattle.sheet.proofs.TypeLaws.{walked-is, walked-refused}
+use Rattle.sheet_types.proofs.TypeLaws.{walked-is, walked-refused}
 use Rattle.emit.specs.Laws.{known, join}
 use Rattle.cursors.specs.Chain.{toldWalk}
 use mathlib.Core.Path.{ap}
 use borrow.Author.Needs.{needs}
-use Rattle.sheet.proofs.bases.put_walked.Statement.{statement}
-use Rattle.sheet.proofs.bases.put_walked.Tie as tie
-use Rattle.sheet.proofs.bases.put_walked.Reads as reads
-use Rattle.sheet.proofs.bases.put_walked.Lts as lts
+use Rattle.sheet_types.proofs.bases.put_walked.Statement.{statement}
+use Rattle.sheet_types.proofs.bases.put_walked.Tie as tie
+use Rattle.sheet_types.proofs.bases.put_walked.Reads as reads
+use Rattle.sheet_types.proofs.bases.put_walked.Lts as lts
 use Rattle.emit.proofs.put_le.Reads as put-le-reads
 use Rattle.emit.proofs.put_refusal.Reads as put-refusal-reads
-use Rattle.sheet.proofs.bases.put_links.Reads as put-links-reads
+use Rattle.sheet_types.proofs.bases.put_links.Reads as put-links-reads
 
 -- src/bases.rt:63:26
 enum-known-walk : tie.Need-enum-known-walk

@@ -1,10 +1,10 @@
-use Rattle.sheet.proofs.TypeLaws.{head-is}
+use Rattle.sheet_types.proofs.TypeLaws.{head-is}
 use Rattle.emit.specs.Laws.{known, join}
 use borrow.Author.Needs.{needs}
-use Rattle.sheet.proofs.types.put_head.Statement.{statement}
-use Rattle.sheet.proofs.types.put_head.Tie as tie
-use Rattle.sheet.proofs.types.put_head.Reads as reads
-use Rattle.sheet.proofs.types.put_head.Lts as lts
+use Rattle.sheet_types.proofs.types.put_head.Statement.{statement}
+use Rattle.sheet_types.proofs.types.put_head.Tie as tie
+use Rattle.sheet_types.proofs.types.put_head.Reads as reads
+use Rattle.sheet_types.proofs.types.put_head.Lts as lts
 use Rattle.emit.proofs.copy_u32.Reads as copy-u32-reads
 use Rattle.emit.proofs.put_le.Reads as put-le-reads
 

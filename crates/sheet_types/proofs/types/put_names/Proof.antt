@@ -1,10 +1,10 @@
-use Rattle.sheet.proofs.TypeLaws.{names-is}
+use Rattle.sheet_types.proofs.TypeLaws.{names-is}
 use Rattle.emit.specs.Laws.{known, join}
 use borrow.Author.Needs.{needs}
-use Rattle.sheet.proofs.types.put_names.Statement.{statement}
-use Rattle.sheet.proofs.types.put_names.Tie as tie
-use Rattle.sheet.proofs.types.put_names.Reads as reads
-use Rattle.sheet.proofs.types.put_names.Lts as lts
+use Rattle.sheet_types.proofs.types.put_names.Statement.{statement}
+use Rattle.sheet_types.proofs.types.put_names.Tie as tie
+use Rattle.sheet_types.proofs.types.put_names.Reads as reads
+use Rattle.sheet_types.proofs.types.put_names.Lts as lts
 use Rattle.emit.proofs.put_le.Reads as put-le-reads
 use Rattle.emit.proofs.word_at.Reads as word-at-reads
 use Rattle.sheet_trees.proofs.values.put_opt_guid.Reads as put-opt-guid-reads

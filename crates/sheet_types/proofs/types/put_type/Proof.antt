@@ -1,14 +1,14 @@
-use Rattle.sheet.proofs.TypeLaws.{type-is}
+use Rattle.sheet_types.proofs.TypeLaws.{type-is}
 use Rattle.emit.specs.Laws.{known, join}
 use borrow.Author.Needs.{needs}
-use Rattle.sheet.proofs.types.put_type.Statement.{statement}
-use Rattle.sheet.proofs.types.put_type.Tie as tie
-use Rattle.sheet.proofs.types.put_type.Reads as reads
-use Rattle.sheet.proofs.types.put_type.Lts as lts
+use Rattle.sheet_types.proofs.types.put_type.Statement.{statement}
+use Rattle.sheet_types.proofs.types.put_type.Tie as tie
+use Rattle.sheet_types.proofs.types.put_type.Reads as reads
+use Rattle.sheet_types.proofs.types.put_type.Lts as lts
 use Rattle.emit.proofs.word_at.Reads as word-at-reads
-use Rattle.sheet.proofs.bases.put_base.Reads as put-base-reads
-use Rattle.sheet.proofs.types.put_head.Reads as put-head-reads
-use Rattle.sheet.proofs.types.put_names.Reads as put-names-reads
+use Rattle.sheet_types.proofs.bases.put_base.Reads as put-base-reads
+use Rattle.sheet_types.proofs.types.put_head.Reads as put-head-reads
+use Rattle.sheet_types.proofs.types.put_names.Reads as put-names-reads
 use Rattle.sheet_members.proofs.functions.put_functions.Reads as put-functions-reads
 use Rattle.sheet_members.proofs.variables.put_variables.Reads as put-variables-reads
 use Rattle.util.proofs.bits.Reads as bits-reads

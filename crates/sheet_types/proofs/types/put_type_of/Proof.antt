@@ -1,14 +1,14 @@
-use Rattle.sheet.proofs.TypeLaws.{type-found, type-missing}
+use Rattle.sheet_types.proofs.TypeLaws.{type-found, type-missing}
 use Rattle.emit.specs.Laws.{known}
 use Rattle.typelib.specs.Told.{toldTypeInfo}
 use mathlib.Core.Path.{ap}
 use borrow.Author.Needs.{needs}
-use Rattle.sheet.proofs.types.put_type_of.Statement.{statement}
-use Rattle.sheet.proofs.types.put_type_of.Tie as tie
-use Rattle.sheet.proofs.types.put_type_of.Reads as reads
-use Rattle.sheet.proofs.types.put_type_of.Lts as lts
+use Rattle.sheet_types.proofs.types.put_type_of.Statement.{statement}
+use Rattle.sheet_types.proofs.types.put_type_of.Tie as tie
+use Rattle.sheet_types.proofs.types.put_type_of.Reads as reads
+use Rattle.sheet_types.proofs.types.put_type_of.Lts as lts
 use Rattle.emit.proofs.put_refusal.Reads as put-refusal-reads
-use Rattle.sheet.proofs.types.put_type.Reads as put-type-reads
+use Rattle.sheet_types.proofs.types.put_type.Reads as put-type-reads
 use Rattle.typelib.proofs.TypeLib.typeinfo.Reads as typeinfo-reads
 
 -- src/types.rt:23:11

@@ -1,0 +1,2 @@
+-- The bytes of the parts of a type.
+pub mod Types
