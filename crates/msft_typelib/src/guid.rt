@@ -5,9 +5,9 @@ use replies::rows;
 ghost use Rattle.replies.specs.Call.{laid, outcome, past, reply};
 ghost use Rattle.replies.specs.Values.{place};
 ghost use Rattle.records.specs.Answer.{map};
-ghost use Rattle.records.specs.Guid.{guidText};
 ghost use Rattle.records.specs.Layout.{guid, sizeOf};
 ghost use Rattle.records.specs.Record.{field, placeOf, recordPlace};
+ghost use Rattle.texts.specs.Guid.{guidText};
 ghost use mathlib.Core.Path.{_≡_};
 
 // The place of the 16 bytes.
@@ -64,5 +64,5 @@ pub extern "C" fn msft_guid_text(s: &[u8], at: usize, len: usize, out: &mut [u8]
     if number != 0 {
         return reply::minus(number);
     }
-    reply::of_written(Guid { at, len }.text(s, out))
+    reply::of_written(texts::guid::text(Guid { at, len }, s, out))
 }

@@ -1,10 +1,11 @@
 // Kinds of types and the names of codes. These take no library.
-use records::types;
 use records::types::TypeKind;
 use replies::reply;
+use texts::types;
 ghost use mathlib.Core.Path.{_≡_};
 ghost use Rattle.records.specs.Answer.{value};
-ghost use Rattle.records.specs.Types.{kindOf, kindWord, vtName};
+ghost use Rattle.records.specs.Types.{kindOf};
+ghost use Rattle.texts.specs.Types.{kindWord, vtName};
 ghost use Rattle.replies.specs.Call.{kindNumber, laid, outcome, reply};
 
 // The kind that a number stands for, by its number: 0 to 7, or one that TYPEKIND has not.
@@ -20,7 +21,7 @@ pub extern "C" fn msft_kind_from_raw(raw: u8) -> i64
 pub extern "C" fn msft_kind_word(raw: u8, out: &mut [u8]) -> i64
     ensures { λ r. ⌜ outcome r (now (out .exit)) ≡ laid (value (kindWord (kindOf raw))) (now (out .entry)) ⌝ }
 {
-    reply::of_written(TypeKind::from_raw(raw).word(out))
+    reply::of_written(types::word(TypeKind::from_raw(raw), out))
 }
 
 // The name of a VARTYPE code.

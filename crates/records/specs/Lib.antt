@@ -9,11 +9,6 @@ pub mod Counted
 pub mod Attributes
 pub mod AttributeLaws
 pub mod Told
-pub mod Stores
-pub mod Text
-pub mod TextLaws
 pub mod Varenum
 pub mod Types
 pub mod TypesLaws
-pub mod Guid
-pub mod GuidLaws

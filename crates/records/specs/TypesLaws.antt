@@ -1,31 +1,12 @@
 -- Laws of `Types`. Assumes nothing.
 use mathlib.Core.Path.{_≡_, refl}
-use mathlib.Core.Bool.{Bool, true, false, cond}
 use mathlib.Core.List.{List, [], _∷_}
-use Prim.Native.Nat.{ℕ, zero, suc, _≤_, _<_}
+use Prim.Native.Nat.{ℕ, zero, suc, _<_}
 use native.Mathlib.Nat.{le-of-suc-le-suc, not-suc-le-zero}
-use native.Mathlib.Omega.{arith}
-use lib.Dec.{T, ltb}
 use lib.ListN.{length, getD}
-use borrow.Author.Tests.{ltb-true, ne-eqb}
-use Rattle.records.specs.Types.{Named, nameIn}
 
 -- an entry of a list, whatever is read past its end
 pub getD-any : {A : Type 0} (l : List A) (i : ℕ) (d e : A) → i < length l → getD l i d ≡ getD l i e
 getD-any [] i d e h = absurd (not-suc-le-zero h)
 getD-any (x ∷ l) zero d e h = refl
 getD-any (x ∷ l) (suc i) d e h = getD-any l i d e (le-of-suc-le-suc h)
-
--- every code of the list is below m
-abbrev pub allBelow : ℕ → List Named → Bool
-allBelow m [] = true
-allBelow m (r ∷ rs) = cond (ltb (r .code) m) (allBelow m rs) false
-
--- so a code from m on has no name there
-pub name-none : (rs : List Named) (m vt : ℕ) → T (allBelow m rs) → m ≤ vt → nameIn rs vt ≡ "Unknown"
-name-none [] m vt t h = refl
-name-none (r ∷ rs) m vt t h = go (ltb (r .code) m) refl t (λ u. name-none rs m vt u h)
-  where
-    go : (b : Bool) → ltb (r .code) m ≡ b → T (cond b (allBelow m rs) false) → (T (allBelow m rs) → nameIn rs vt ≡ "Unknown") → nameIn (r ∷ rs) vt ≡ "Unknown"
-    go true e u ih = rw (ne-eqb (r .code) vt (λ q. omega (arith, ltb-true (r .code) m e))) (ih u)
-    go false e u ih = absurd u

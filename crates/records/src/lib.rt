@@ -14,7 +14,6 @@ pub mod impinfo;
 pub mod name;
 pub mod param;
 pub mod refrecord;
-mod text;
 pub mod typeinfo;
 pub mod types;
 pub mod var;

@@ -32,9 +32,9 @@ use records::param::ParameterInfo;
 use records::refrecord::RefRecord;
 use records::typeinfo::KindAnswer;
 use records::typeinfo::TypeInfoEntry;
-use records::types;
 use records::types::TypeKind;
 use records::var::VarRecord;
+use texts::types;
 
 // How many kinds there are. They are numbered from 0.
 pub const COUNT: u8 = 13;
@@ -79,7 +79,7 @@ fn guid(lent: &[u8], recorded: &[u8], record: Guid, before: Progress) -> Progres
 
 fn guid_text(lent: &[u8], recorded: &[u8], record: Guid, before: Progress) -> Progress {
     let mut text = [0u8; TEXT_ROOM];
-    let answer = record.text(lent, &mut text);
+    let answer = texts::guid::text(record, lent, &mut text);
     same_text(recorded, before, &text, answer)
 }
 
@@ -316,7 +316,7 @@ fn typekind(recorded: &[u8], raw: u32, before: Progress) -> Progress {
     let kind = TypeKind::from_raw(raw as u8);
     let progress = same_kind(recorded, before, KindAnswer::Value(kind));
     let mut text = [0u8; TEXT_ROOM];
-    let answer = kind.word(&mut text);
+    let answer = types::word(kind, &mut text);
     same_text(recorded, progress, &text, answer)
 }
 

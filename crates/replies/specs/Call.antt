@@ -7,9 +7,9 @@ use lib.ListN.{length}
 use mir.Syntax.{w16, w32}
 use mir.Val.{ofZ}
 use Rattle.records.specs.Answer.{Answer, value, refused, map}
-use Rattle.records.specs.Text.{fitted, fronted}
 use Rattle.records.specs.declared.types.TypeKind.{TypeKind}
 use Rattle.records.specs.declared.types.TypeKind.the-variants as kind
+use Rattle.texts.specs.Text.{fitted, fronted}
 use Rattle.typelib.specs.declared.TypeLib.{TypeLib}
 use Rattle.typelib.specs.Header.{parseOf, parsed}
 

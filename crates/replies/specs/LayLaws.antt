@@ -12,11 +12,11 @@ use mir.Val.{toZ, ofZ}
 use borrow.Author.Tests.{le-leb, lt-leb}
 use Rattle.records.specs.Answer.{Answer, value, refused, map}
 use Rattle.records.specs.Record.{limit}
-use Rattle.records.specs.Text.{fitted, fronted}
 use Rattle.records.specs.Types.{vtOf}
 use Rattle.records.specs.declared.answer.Place.{Place}
 use Rattle.records.specs.declared.name.NameEntry.{NameEntry}
 use Rattle.records.specs.declared.types.ConstValue.{ConstValue}
+use Rattle.texts.specs.Text.{fitted, fronted}
 use Rattle.typelib.specs.References.{external}
 use Rattle.description.specs.Format.{leBytes}
 use Rattle.description.specs.Description.{Shape, shapeOf}

@@ -12,7 +12,7 @@ use mir.Val.{toZ, ofZ}
 use mir.ValLaws.{toZ-ofZ}
 use borrow.Author.Tests.{lt-ltb, le-ltb, leb-true}
 use Rattle.records.specs.Answer.{Answer, value, refused, map}
-use Rattle.records.specs.Text.{fitted, fronted, Laid}
+use Rattle.texts.specs.Text.{fitted, fronted, Laid}
 use Rattle.replies.specs.Call.{after, reply, Outcome, outcome, laid}
 use Rattle.replies.specs.CallLaws.{minus-fits, minus-back, pos-back, after-none, after-some}
 

@@ -4,7 +4,7 @@ use mathlib.Core.List.{List, [], _∷_}
 use Prim.Native.Nat.{ℕ, _/_, _%_, _≤_, _<_}
 use lib.ListN.{getD, take}
 use Rattle.records.specs.Answer.{Answer, refused}
-use Rattle.records.specs.Text.{ascii}
+use Rattle.texts.specs.Text.{ascii}
 use Rattle.description.specs.Sheet.{edition-one}
 use Rattle.describe.specs.Call.{Call}
 

@@ -1,4 +1,4 @@
-use Rattle.records.specs.Guid.{guidText}
+use Rattle.texts.specs.Guid.{guidText}
 use Rattle.replies.specs.Written.{before, behind, written}
 use native.Mathlib.Omega.{arith}
 use borrow.Author.Needs.{needs}
@@ -9,7 +9,7 @@ use Rattle.msft_typelib.proofs.guid.msft_guid_text.Lts as lts
 use Rattle.replies.proofs.reply.minus.Reads as minus-reads
 use Rattle.replies.proofs.reply.of_written.Reads as of-written-reads
 use Rattle.replies.proofs.reply.refusal.Reads as refusal-reads
-use Rattle.records.proofs.guid.Guid.text.Reads as text-reads
+use Rattle.texts.proofs.guid.text.Reads as text-reads
 
 -- src/guid.rt:63:9
 refusal-requires : tie.Need-refusal-requires

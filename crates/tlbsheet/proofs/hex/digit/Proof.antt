@@ -1,7 +1,7 @@
 use mathlib.Core.Path.{sym}
 use lib.ListN.{List·getD-eq-default}
 use borrow.Author.Needs.{needs}
-use Rattle.records.specs.Text.{ascii}
+use Rattle.texts.specs.Text.{ascii}
 use Rattle.tlbsheet.proofs.hex.digit.Statement.{statement}
 use Rattle.tlbsheet.proofs.hex.digit.Tie as tie
 
