@@ -10,8 +10,10 @@ use lib.Dec.{ltb}
 use lib.ListN.{length}
 use borrow.Author.Tests.{ltb-true, ltb-false}
 use mir.Syntax.{w32}
-use mir.Val.{ofZ}
+use mir.Val.{Fits, toZ, ofZ}
+use mir.ValLaws.{ofZ-toZ}
 use Rattle.util.specs.Read.{read, orZero}
+use Rattle.records.specs.declared.answer.Place.{Place}
 use Rattle.records.specs.declared.types.TypeDescription.{TypeDescription}
 use Rattle.records.specs.declared.types.TypeDescription.the-variants as type
 use Rattle.records.specs.Answer.{Answer, value, refused, map}
@@ -26,14 +28,16 @@ use Rattle.description.specs.Format.{encode, leBytes, list, joined}
 use Rattle.description.specs.Description.{Bytes, Dimension, Tree}
 use Rattle.description.specs.Description.Tree.{nothing, base, pointer, safeArray, cArray, reference}
 use Rattle.description.specs.Sheet.{edition-one, u16, dimension, level, nested, tree}
+use Rattle.description.specs.Sheet.{reference as referred}
 use Rattle.describe.specs.Values.{fieldOf}
+use Rattle.describe.specs.References.{referenceOf}
 use Rattle.describe.specs.Trees.{dimensionsAt, dimensionsOf, treeFrom, nestedOf, treeOf}
 use Rattle.emit.specs.Emit.{Put}
 use Rattle.emit.specs.Emit.{_▸_, Emitted}
 use Rattle.emit.specs.Laws.{join, skip, known}
 use Rattle.sheet_trees.specs.declared.trees.Inner.{Inner}
 use Rattle.sheet_trees.specs.declared.trees.Inner.the-variants as inner
-use Rattle.sheet_trees.specs.Parts.{dimensionsBytes, arrayBytes, headBytes, baseBytes, inlineBytes, innerOf, toldInner}
+use Rattle.sheet_trees.specs.Parts.{dimensionsBytes, arrayBytes, arrayOf, headBytes, baseBytes, inlineBytes, innerOf, toldInner, Levelled}
 
 -- ---- dimensions
 
@@ -161,3 +165,35 @@ module _ (s : List ℕ) (field : ℕ) where
   pub inline-base : {code : ℕ} → length s ≤ limit → code ≡ bitsOf 0 12 field → value (1 ∷ leBytes 2 code) ≡ value (inlineBytes s field)
   unfolding inlineBytes
   inline-base {code} h e = ap (λ (a : Answer ℕ). value (baseBytes a)) (lent-fits _ _ (value code) h (ap value e))
+
+-- ---- one description
+
+module _ (s : List ℕ) (lib : TypeLib) {t u : Put} {o o′ : List ℕ} {i : Option ℕ} where
+  pub level-as : {a b : Answer TypeDescription} → a ≡ b → Levelled s lib a t o u o′ i → Levelled s lib b t o u o′ i
+  level-as e l = rw (← e) l
+
+  pub level-nothing : (n : ℕ) → Emitted (value (0 ∷ [])) t o u o′ × (i ≡ none) → Levelled s lib (refused n) t o u o′ i
+  unfolding headBytes innerOf
+  level-nothing n l = l
+
+  pub level-base : (code : ℕ) → Emitted (value (1 ∷ leBytes 2 code)) t o u o′ × (i ≡ none) → Levelled s lib (value (type.Base code)) t o u o′ i
+  unfolding headBytes innerOf
+  level-base code l = l
+
+  pub level-array : (p : Place) → Emitted (value (arrayBytes s (p .at))) t o u o′ × (i ≡ some (orZero (read 4 s (p .at + 0)))) → Levelled s lib (arrayOf (value p)) t o u o′ i
+  unfolding headBytes innerOf
+  level-array p l = l
+
+  module _ {second : ℕ} (fits : Fits w32 second) where
+    pub level-pointer : Emitted (value (2 ∷ [])) t o u o′ × (i ≡ some second) → Levelled s lib (value (type.Pointer (toZ w32 second))) t o u o′ i
+    unfolding headBytes innerOf
+    level-pointer l = (l .0, l .1 ∙ ap some (sym (ofZ-toZ w32 second fits)))
+
+    pub level-safe-array : Emitted (value (3 ∷ [])) t o u o′ × (i ≡ some second) → Levelled s lib (value (type.SafeArray (toZ w32 second))) t o u o′ i
+    unfolding headBytes innerOf
+    level-safe-array l = (l .0, l .1 ∙ ap some (sym (ofZ-toZ w32 second fits)))
+
+    pub level-user : Emitted (value (5 ∷ encode (referred edition-one (lib .count)) (referenceOf s lib second))) t o u o′ × (i ≡ none)
+        → Levelled s lib (value (type.UserDefined (toZ w32 second))) t o u o′ i
+    unfolding headBytes innerOf
+    level-user l = rw (ofZ-toZ w32 second fits) l

@@ -1,5 +1,6 @@
 -- The bytes of the parts that a record's numbers name, as the emitters write them; `Laws` proves that they are those of the formats
 -- of `description`. Assumes nothing.
+use mathlib.Core.Path.{_≡_}
 use mathlib.Core.Bool.{Bool, cond}
 use mathlib.Core.Option.{Option, some, none}
 use mathlib.Core.List.{List, [], _∷_, _++_}
@@ -23,6 +24,7 @@ use Rattle.description.specs.Sheet.{edition-one, own, file, dimension, referenc
 use Rattle.describe.specs.Values.{found, bytesIn, fieldOf}
 use Rattle.describe.specs.References.{fileWith, referenceOf}
 use Rattle.describe.specs.Trees.{dimensionsAt}
+use Rattle.emit.specs.Emit.{Put, Emitted}
 use Rattle.sheet_trees.specs.declared.trees.Inner.{Inner}
 use Rattle.sheet_trees.specs.declared.trees.Inner.the-variants as inner
 
@@ -97,6 +99,14 @@ innerOf s (value (type.CArray d)) = some (fieldOf arrayDesc "element type" s (d 
 innerOf s (value (type.UserDefined x)) = none
 innerOf s (refused n) = none
 
+-- a C array whose descriptor was found
+abbrev pub arrayOf : Answer Place → Answer TypeDescription
+arrayOf = map (λ p. type.CArray (record { at = p .at; len = p .len }))
+
 abbrev pub toldInner : Inner → Option ℕ
 toldInner (inner.Field x) = some x
 toldInner inner.Nothing = none
+
+-- one description of a tree: its bytes are emitted, and i is what is under it
+abbrev pub Levelled : List ℕ → TypeLib → Answer TypeDescription → Put → List ℕ → Put → List ℕ → Option ℕ → Type 0
+Levelled s lib a t o u o′ i = Emitted (value (headBytes s lib a)) t o u o′ × (i ≡ innerOf s a)

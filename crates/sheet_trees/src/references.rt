@@ -26,13 +26,10 @@ ghost use Rattle.sheet_trees.specs.Parts.{ownBytes, fileBytes, hereBytes
 // The bit of a dispatch interface's reference.
 const DISPATCH_BIT: u32 = 0x0100_0000;
 
-// The reference of an hreftype. (Most have their low two bits clear, and need no table.)
+// The reference of an hreftype.
 pub fn put_reference(s: &[u8], lib: TypeLib, href: u32, out: &mut [u8], to: usize) -> usize
     ensures { λ r. ⌜ Emitted (value (encode (reference edition-one (lib .count)) (referenceOf (now (s .entry)) lib href))) (put to) (now (out .entry)) (put r) (now (out .exit)) ⌝ }
 {
-    if util::bits(href, 0, 2) == 0 {
-        return put_in_this_file(s, lib.count, href, out, to);
-    }
     let bit = util::bits(href, 24, 1);
     match lib.resolve_hreftype_full(s, util::signed32(href)) {
         ResolvedAnswer::Value(r) => put_resolved(s, lib, bit, r, out, to),
@@ -40,8 +37,9 @@ pub fn put_reference(s: &[u8], lib: TypeLib, href: u32, out: &mut [u8], to: usiz
     }
 }
 
-// The reference of an hreftype to one of this library's `count` typeinfos.
-fn put_in_this_file(s: &[u8], count: u32, href: u32, out: &mut [u8], to: usize) -> usize
+// The reference of an hreftype to one of this library's `count` typeinfos, as one is whose low two bits are clear. (Most
+// are. A caller that tests for them first saves the way through the tables.)
+pub fn put_in_this_file(s: &[u8], count: u32, href: u32, out: &mut [u8], to: usize) -> usize
     ensures { λ r. ⌜ Emitted (value (hereBytes (now (s .entry)) count href)) (put to) (now (out .entry)) (put r) (now (out .exit)) ⌝ }
 {
     if LIMIT < s.len() {

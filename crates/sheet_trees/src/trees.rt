@@ -2,21 +2,24 @@
 use crate::references;
 use records::arraydesc::ArrayDesc;
 use records::field::LIMIT;
-use records::types::TypeDescription;
 use typelib::TypeLib;
-use typelib::descriptors::DescriptionAnswer;
+use typelib::descriptors::ArrayDescAnswer;
+use typelib::descriptors::PairAnswer;
 use util::NEGATIVE;
 ghost use mathlib.Core.Path.{_≡_};
-ghost use mathlib.Core.List.{_++_, _∷_};
+ghost use mathlib.Core.List.{[], _++_, _∷_};
+ghost use mathlib.Core.Option.{some, none};
 ghost use Rattle.records.specs.Answer.{value, map};
-ghost use Rattle.typelib.specs.Told.{toldDescription};
+ghost use Rattle.records.specs.Record.{bitsOf};
+ghost use Rattle.typelib.specs.Tables.{lent};
+ghost use Rattle.typelib.specs.Descriptors.{arrayDescAt, descriptionOf, typeDescription};
 ghost use Prim.Native.Nat.{_+_};
 ghost use Rattle.description.specs.Format.{encode, leBytes};
 ghost use Rattle.description.specs.Sheet.{edition-one, reference, nested, tree};
 ghost use Rattle.describe.specs.References.{referenceOf};
 ghost use Rattle.describe.specs.Trees.{nestedOf, treeOf};
 ghost use Rattle.emit.specs.Emit.{Emitted, put};
-ghost use Rattle.sheet_trees.specs.Parts.{arrayBytes, dimensionsBytes, headBytes, inlineBytes, innerOf, toldInner};
+ghost use Rattle.sheet_trees.specs.Parts.{arrayBytes, arrayOf, dimensionsBytes, inlineBytes, Levelled, toldInner};
 
 // The most descriptions that a tree nests.
 const LEVELS: usize = 32;
@@ -25,6 +28,12 @@ const LEVELS: usize = 32;
 pub enum Inner {
     Field(u32),
     Nothing,
+}
+
+// Where a description ends, and what is under it.
+pub struct Level {
+    pub to: usize,
+    pub inner: Inner,
 }
 
 // The tree of a type field. (Most are negative, and need nothing but their own number.)
@@ -45,11 +54,11 @@ fn put_nested(s: &[u8], lib: TypeLib, field: u32, levels: usize, out: &mut [u8],
     if levels == 0 {
         return emit::put_refusal(to, 11);
     }
-    let description = lib.type_description_at(s, field);
-    let t = put_head(s, lib, description, out, to);
-    match under(s, description) {
-        Inner::Field(below) => put_nested(s, lib, below, levels - 1, out, t),
-        Inner::Nothing => t,
+    let level = put_level(s, lib, field, out, to);
+    let inner = level.inner;
+    match inner {
+        Inner::Field(below) => put_nested(s, lib, below, levels - 1, out, level.to),
+        Inner::Nothing => level.to,
     }
 }
 
@@ -64,31 +73,68 @@ fn put_inline(s: &[u8], field: u32, out: &mut [u8], to: usize) -> usize
     }
 }
 
-// A description without the tree under it.
-fn put_head(
-    s: &[u8],
-    lib: TypeLib,
-    description: DescriptionAnswer,
-    out: &mut [u8],
-    to: usize,
-) -> usize
-    ensures { λ r. ⌜ Emitted (value (headBytes (now (s .entry)) lib (toldDescription description))) (put to) (now (out .entry)) (put r) (now (out .exit)) ⌝ }
+// One description of a tree. (It goes by the words of the descriptor: an enum of what they mean is slow to hand on.)
+fn put_level(s: &[u8], lib: TypeLib, field: u32, out: &mut [u8], to: usize) -> Level
+    ensures { λ r. ⌜ Levelled (now (s .entry)) lib (lent (now (s .entry)) (typeDescription (now (s .entry)) lib field)) (put to) (now (out .entry)) (put (r .to)) (now (out .exit)) (toldInner (r .inner)) ⌝ }
 {
-    match description {
-        DescriptionAnswer::Value(d) => put_code(s, lib, d, out, to),
-        DescriptionAnswer::Refused(_) => emit::put_u8(out, to, 0),
+    if LIMIT < s.len() {
+        return put_nothing(out, to);
+    }
+    if NEGATIVE <= field {
+        return put_leaf(util::bits(field, 0, 12) as u16, out, to);
+    }
+    match lib.type_desc_at(s, field) {
+        PairAnswer::Value(words) => put_descriptor(s, lib, words.first, words.second, out, to),
+        PairAnswer::Refused(_) => put_nothing(out, to),
     }
 }
 
-fn put_code(s: &[u8], lib: TypeLib, d: TypeDescription, out: &mut [u8], to: usize) -> usize
-    ensures { λ r. ⌜ Emitted (value (headBytes (now (s .entry)) lib (value d))) (put to) (now (out .entry)) (put r) (now (out .exit)) ⌝ }
+// The description that the two words of a type descriptor are.
+fn put_descriptor(
+    s: &[u8],
+    lib: TypeLib,
+    first: u32,
+    second: u32,
+    out: &mut [u8],
+    to: usize,
+) -> Level
+    ensures { λ r. ⌜ Levelled (now (s .entry)) lib (descriptionOf (now (s .entry)) lib (bitsOf 0 12 first) second) (put to) (now (out .entry)) (put (r .to)) (now (out .exit)) (toldInner (r .inner)) ⌝ }
 {
-    match d {
-        TypeDescription::Base(vt) => put_base(vt, out, to),
-        TypeDescription::Pointer(_) => emit::put_u8(out, to, 2),
-        TypeDescription::SafeArray(_) => emit::put_u8(out, to, 3),
-        TypeDescription::CArray(desc) => put_array(s, desc, out, to),
-        TypeDescription::UserDefined(href) => put_user(s, lib, util::unsigned32(href), out, to),
+    let code = util::bits(first, 0, 12);
+    match code {
+        26 => put_over(2, second, out, to),
+        27 => put_over(3, second, out, to),
+        28 => put_array_at(s, lib, util::bits(second, 0, 16), out, to),
+        29 => put_user(s, lib, second, out, to),
+        _ => put_leaf(code as u16, out, to),
+    }
+}
+
+// A pointer or a safe array, by its code byte: the tree of `below` stands under it.
+fn put_over(mark: u8, below: u32, out: &mut [u8], to: usize) -> Level
+    ensures { λ r. ⌜ Emitted (value (mark ∷ [])) (put to) (now (out .entry)) (put (r .to)) (now (out .exit)) × (toldInner (r .inner) ≡ some below) ⌝ }
+{
+    Level {
+        to: emit::put_u8(out, to, mark),
+        inner: Inner::Field(below),
+    }
+}
+
+fn put_nothing(out: &mut [u8], to: usize) -> Level
+    ensures { λ r. ⌜ Emitted (value (0 ∷ [])) (put to) (now (out .entry)) (put (r .to)) (now (out .exit)) × (toldInner (r .inner) ≡ none) ⌝ }
+{
+    Level {
+        to: emit::put_u8(out, to, 0),
+        inner: Inner::Nothing,
+    }
+}
+
+fn put_leaf(vt: u16, out: &mut [u8], to: usize) -> Level
+    ensures { λ r. ⌜ Emitted (value (1 ∷ leBytes 2 vt)) (put to) (now (out .entry)) (put (r .to)) (now (out .exit)) × (toldInner (r .inner) ≡ none) ⌝ }
+{
+    Level {
+        to: put_base(vt, out, to),
+        inner: Inner::Nothing,
     }
 }
 
@@ -98,11 +144,33 @@ fn put_base(vt: u16, out: &mut [u8], to: usize) -> usize
     emit::put_le(out, to, 1 + 256 * (vt as u64), 3)
 }
 
-fn put_user(s: &[u8], lib: TypeLib, href: u32, out: &mut [u8], to: usize) -> usize
-    ensures { λ r. ⌜ Emitted (value (5 ∷ encode (reference edition-one (lib .count)) (referenceOf (now (s .entry)) lib href))) (put to) (now (out .entry)) (put r) (now (out .exit)) ⌝ }
+// A reference. (One in this library, as most are, is emitted without a look at a table.)
+fn put_user(s: &[u8], lib: TypeLib, href: u32, out: &mut [u8], to: usize) -> Level
+    ensures { λ r. ⌜ Emitted (value (5 ∷ encode (reference edition-one (lib .count)) (referenceOf (now (s .entry)) lib href))) (put to) (now (out .entry)) (put (r .to)) (now (out .exit)) × (toldInner (r .inner) ≡ none) ⌝ }
 {
     let t = emit::put_u8(out, to, 5);
-    references::put_reference(s, lib, href, out, t)
+    let end = if util::bits(href, 0, 2) == 0 {
+        references::put_in_this_file(s, lib.count, href, out, t)
+    } else {
+        references::put_reference(s, lib, href, out, t)
+    };
+    Level {
+        to: end,
+        inner: Inner::Nothing,
+    }
+}
+
+// A C array, by the offset of its descriptor.
+fn put_array_at(s: &[u8], lib: TypeLib, offset: u32, out: &mut [u8], to: usize) -> Level
+    ensures { λ r. ⌜ Levelled (now (s .entry)) lib (arrayOf (arrayDescAt (now (s .entry)) lib offset)) (put to) (now (out .entry)) (put (r .to)) (now (out .exit)) (toldInner (r .inner)) ⌝ }
+{
+    match lib.array_desc_at(s, offset) {
+        ArrayDescAnswer::Value(desc) => Level {
+            to: put_array(s, desc, out, to),
+            inner: Inner::Field(emit::word_at(s, desc.at, 0x00)),
+        },
+        ArrayDescAnswer::Refused(_) => put_nothing(out, to),
+    }
 }
 
 // A C array's descriptor: the count of its dimensions, and each.
@@ -129,25 +197,4 @@ fn put_dimensions(s: &[u8], at: usize, count: u16, out: &mut [u8], to: usize) ->
         left -= 1;
     }
     t
-}
-
-fn under(s: &[u8], description: DescriptionAnswer) -> Inner
-    ensures { λ r. ⌜ toldInner r ≡ innerOf (now (s .entry)) (toldDescription description) ⌝ }
-{
-    match description {
-        DescriptionAnswer::Value(d) => under_of(s, d),
-        DescriptionAnswer::Refused(_) => Inner::Nothing,
-    }
-}
-
-fn under_of(s: &[u8], d: TypeDescription) -> Inner
-    ensures { λ r. ⌜ toldInner r ≡ innerOf (now (s .entry)) (value d) ⌝ }
-{
-    match d {
-        TypeDescription::Base(_) => Inner::Nothing,
-        TypeDescription::Pointer(field) => Inner::Field(util::unsigned32(field)),
-        TypeDescription::SafeArray(field) => Inner::Field(util::unsigned32(field)),
-        TypeDescription::CArray(desc) => Inner::Field(emit::word_at(s, desc.at, 0x00)),
-        TypeDescription::UserDefined(_) => Inner::Nothing,
-    }
 }

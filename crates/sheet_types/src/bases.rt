@@ -99,6 +99,10 @@ fn put_link(s: &[u8], lib: TypeLib, link: RefRecord, out: &mut [u8], to: usize) 
     ensures { λ r. ⌜ Emitted (value (encode (implType edition-one (lib .count)) (implTypeAt (now (s .entry)) lib (record { at = link .at; len = link .len })))) (put to) (now (out .entry)) (put r) (now (out .exit)) ⌝ }
 {
     let href = emit::word_at(s, link.at, 0x00);
-    let t = references::put_reference(s, lib, href, out, to);
+    let t = if util::bits(href, 0, 2) == 0 {
+        references::put_in_this_file(s, lib.count, href, out, to)
+    } else {
+        references::put_reference(s, lib, href, out, to)
+    };
     emit::copy_u32(s, link.at, 0x04, out, t)
 }

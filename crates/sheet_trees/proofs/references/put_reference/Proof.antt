@@ -1,98 +1,76 @@
-use Rattle.emit.specs.Laws.{known}
-use Rattle.sheet_trees.proofs.PartLaws.{here-referred, reference-some, reference-none}
-use native.Mathlib.Omega.{arith}
-use mathlib.Core.Path.{_≡_, ap, _∙_}
-use mir.Syntax.{w32}
-use mir.Val.{ofZ}
 use mir.ValLaws.{toZ-ofZ, ofZ-toZ}
+use mir.Val.{ofZ}
+use mir.Syntax.{w32}
+use mathlib.Core.Path.{_≡_, ap, _∙_}
+use Rattle.sheet_trees.proofs.PartLaws.{reference-some, reference-none}
+use Rattle.emit.specs.Laws.{known}
 use borrow.Author.Needs.{needs}
 use Rattle.sheet_trees.proofs.references.put_reference.Statement.{statement}
 use Rattle.sheet_trees.proofs.references.put_reference.Tie as tie
 use Rattle.sheet_trees.proofs.references.put_reference.Reads as reads
 use Rattle.sheet_trees.proofs.references.put_reference.Lts as lts
 use Rattle.emit.proofs.put_u8.Reads as put-u8-reads
-use Rattle.sheet_trees.proofs.references.put_in_this_file.Reads as put-in-this-file-reads
 use Rattle.sheet_trees.proofs.references.put_resolved.Reads as put-resolved-reads
 use Rattle.typelib.proofs.TypeLib.resolve_hreftype_full.Reads as resolve-hreftype-full-reads
 use Rattle.util.proofs.bits.Reads as bits-reads
 use Rattle.util.proofs.signed32.Reads as signed32-reads
 
--- src/references.rt:33:8
+-- src/references.rt:29:9
 bits-requires : tie.Need-bits-requires
 bits-requires c κs = search needs
 
--- src/references.rt:34:9
-put-in-this-file-requires : tie.Need-put-in-this-file-requires
-put-in-this-file-requires c κs = search needs
-
--- src/references.rt:34:9
-same-length : tie.Need-same-length
-same-length c = search needs
-
--- src/references.rt:34:9
-returns : tie.Need-returns
-returns c = known (here-referred _ _ _ (omega (arith, c .before .before .before .before .before .bits .ensures))) (c .before .before .put-in-this-file .ensures)
-
--- src/references.rt:36:9
-bits-requires-2 : tie.Need-bits-requires-2
-bits-requires-2 c κs = search needs
-
--- src/references.rt:37:40
+-- src/references.rt:30:40
 signed32-requires : tie.Need-signed32-requires
 signed32-requires c κs = search needs
 
--- src/references.rt:37:11
+-- src/references.rt:30:11
 resolve-hreftype-full-requires : tie.Need-resolve-hreftype-full-requires
 resolve-hreftype-full-requires c κs = search needs
 
--- src/references.rt:38:31
+-- src/references.rt:31:31
 enum-known-r : tie.Need-enum-known-r
 enum-known-r c = search needs
 
--- src/references.rt:38:37
+-- src/references.rt:31:37
 put-resolved-requires : tie.Need-put-resolved-requires
 put-resolved-requires c κs = search needs
 
--- src/references.rt:39:52
+-- src/references.rt:32:52
 enum-told : tie.Need-enum-told
 enum-told c = search needs
 
--- src/references.rt:39:39
+-- src/references.rt:32:39
 put-u8-requires : tie.Need-put-u8-requires
 put-u8-requires c κs = search needs
 
--- src/references.rt:30:1
+-- src/references.rt:26:1
+same-length : tie.Need-same-length
+same-length c = search needs
+
+-- src/references.rt:26:1
+returns : tie.Need-returns
+returns c = known (reference-some _ _ _ _ (ap (ofZ w32) (toZ-ofZ w32 _ (record { sfits = c .before .before .before .before .before .before .before .before .signed32 .ok }) ∙ c .before .before .before .before .before .before .before .before .signed32 .ensures) ∙ ofZ-toZ w32 _ (c .before .before .before .before .before .before .before .before .before .before .before .before .fits .href)) (c .before .before .before .before .before .before .before .resolve-hreftype-full .ensures) (c .before .before .before .before .before .before .before .before .before .bits .ensures) (c .before .before .before .before .before .r .given .1)) (c .before .before .put-resolved .ensures)
+
+-- src/references.rt:26:1
 same-length-2 : tie.Need-same-length-2
 same-length-2 c = search needs
 
--- src/references.rt:30:1
+-- src/references.rt:26:1
 returns-2 : tie.Need-returns-2
-returns-2 c = known (reference-some _ _ _ _ (ap (ofZ w32) (toZ-ofZ w32 _ (record { sfits = c .before .before .before .before .before .before .before .before .signed32 .ok }) ∙ c .before .before .before .before .before .before .before .before .signed32 .ensures) ∙ ofZ-toZ w32 _ (c .before .before .before .before .before .before .before .before .before .before .before .before .before .before .fits .href)) (c .before .before .before .before .before .before .before .resolve-hreftype-full .ensures) (c .before .before .before .before .before .before .before .before .before .bits2 .ensures) (c .before .before .before .before .before .r .given .1)) (c .before .before .put-resolved .ensures)
-
--- src/references.rt:30:1
-same-length-3 : tie.Need-same-length-3
-same-length-3 c = search needs
-
--- src/references.rt:30:1
-returns-3 : tie.Need-returns-3
-returns-3 c = known (reference-none _ _ _ _ (ap (ofZ w32) (toZ-ofZ w32 _ (record { sfits = c .before .before .before .before .before .before .before .signed32 .ok }) ∙ c .before .before .before .before .before .before .before .signed32 .ensures) ∙ ofZ-toZ w32 _ (c .before .before .before .before .before .before .before .before .before .before .before .before .before .fits .href)) (c .before .before .before .before .before .before .resolve-hreftype-full .ensures) (c .before .before .before .before .enum-told .given .1)) (c .before .before .put-u8 .ensures)
+returns-2 c = known (reference-none _ _ _ _ (ap (ofZ w32) (toZ-ofZ w32 _ (record { sfits = c .before .before .before .before .before .before .before .signed32 .ok }) ∙ c .before .before .before .before .before .before .before .signed32 .ensures) ∙ ofZ-toZ w32 _ (c .before .before .before .before .before .before .before .before .before .before .before .fits .href)) (c .before .before .before .before .before .before .resolve-hreftype-full .ensures) (c .before .before .before .before .enum-told .given .1)) (c .before .before .put-u8 .ensures)
 
 pub put-reference-spec : {M : Type 1} → statement M
 put-reference-spec =
     tie.close
     (tie.spec
     bits-requires
-    put-in-this-file-requires
-    same-length
-    returns
-    bits-requires-2
     signed32-requires
     resolve-hreftype-full-requires
     enum-known-r
     put-resolved-requires
     enum-told
     put-u8-requires
+    same-length
+    returns
     same-length-2
-    returns-2
-    same-length-3
-    returns-3)
+    returns-2)

@@ -1,3 +1,4 @@
+use mathlib.Core.Path.{refl}
 use Rattle.sheet_trees.proofs.TreeLaws.{too-deep, leaf-laid, branch-laid}
 use native.Mathlib.Nat.{pos-of-ne-zero}
 use native.Mathlib.Omega.{arith}
@@ -9,9 +10,7 @@ use Rattle.sheet_trees.proofs.trees.put_nested.Reads as put-nested
 use Rattle.sheet_trees.proofs.trees.put_nested.Kinds as put-nested-kinds
 use Rattle.sheet_trees.proofs.trees.+put_nested.Lts-put_nested as put-nested-lts
 use Rattle.emit.proofs.put_refusal.Reads as put-refusal-reads
-use Rattle.sheet_trees.proofs.trees.put_head.Reads as put-head-reads
-use Rattle.sheet_trees.proofs.trees.under.Reads as under-reads
-use Rattle.typelib.proofs.TypeLib.type_description_at.Reads as type-description-at-reads
+use Rattle.sheet_trees.proofs.trees.put_level.Reads as put-level-reads
 use Rattle.sheet_trees.proofs.trees.+put_nested.{statement}
 use Rattle.sheet_trees.proofs.trees.+put_nested.Tie.{close}
 
@@ -29,59 +28,40 @@ put-nested-below t =
 -- what its callees ask and give, at the measure t
 abbrev claims : ℕ → put-nested-lts.Claims
 claims t =
-    (put-refusal-reads.Asked, put-refusal-reads.Learnt, type-description-at-reads.Asked, type-description-at-reads.Learnt, put-head-reads.Asked, put-head-reads.Learnt, under-reads.Asked, under-reads.Learnt, put-nested-below t, put-nested.Post)
+    (put-refusal-reads.Asked, put-refusal-reads.Learnt, put-level-reads.Asked, put-level-reads.Learnt, put-nested-below t, put-nested.Post)
 
--- src/trees.rt:41:9
 put-nested-put-refusal-requires : (t : ℕ) → put-nested-lts.Need-put-refusal-requires (claims t) (put-nested-at t) put-nested.Post
 put-nested-put-refusal-requires t c κs = search needs
 
--- src/trees.rt:41:9
 put-nested-returns : (t : ℕ) → put-nested-lts.Need-returns (claims t) (put-nested-at t) put-nested.Post
 put-nested-returns t c = too-deep _ _ _ _ (c .before .if1 .taken) (c .put-refusal .ensures _)
 
--- src/trees.rt:43:9
-put-nested-type-description-at-requires : (t : ℕ) → put-nested-lts.Need-type-description-at-requires (claims t) (put-nested-at t) put-nested.Post
-put-nested-type-description-at-requires t c κs = search needs
+put-nested-put-level-requires : (t : ℕ) → put-nested-lts.Need-put-level-requires (claims t) (put-nested-at t) put-nested.Post
+put-nested-put-level-requires t c κs = search needs
 
--- src/trees.rt:44:9
-put-nested-put-head-requires : (t : ℕ) → put-nested-lts.Need-put-head-requires (claims t) (put-nested-at t) put-nested.Post
-put-nested-put-head-requires t c κs = search needs
+put-nested-enum-known-inner : (t : ℕ) → put-nested-lts.Need-enum-known-inner (claims t) (put-nested-at t) put-nested.Post
+put-nested-enum-known-inner t c = search needs
 
--- src/trees.rt:45:11
-put-nested-under-requires : (t : ℕ) → put-nested-lts.Need-under-requires (claims t) (put-nested-at t) put-nested.Post
-put-nested-under-requires t c κs = search needs
-
--- src/trees.rt:46:22
-put-nested-enum-known-below : (t : ℕ) → put-nested-lts.Need-enum-known-below (claims t) (put-nested-at t) put-nested.Post
-put-nested-enum-known-below t c = search needs
-
--- src/trees.rt:46:58
 put-nested-sub-put-nested : (t : ℕ) → put-nested-lts.Need-sub-put-nested (claims t) (put-nested-at t) put-nested.Post
-put-nested-sub-put-nested t c = omega (arith, pos-of-ne-zero (c .before .before .before .before .before .before .before .before .before .if1 .left))
+put-nested-sub-put-nested t c = omega (arith, pos-of-ne-zero (c .before .before .before .before .before .before .before .if1 .left))
 
--- src/trees.rt:46:32
 put-nested-put-nested-requires : (t : ℕ) → put-nested-lts.Need-put-nested-requires (claims t) (put-nested-at t) put-nested.Post
-put-nested-put-nested-requires t c κs = (omega (arith, c .before .before .before .before .before .before .before .before .before .before .before .before .before .pre .0, pos-of-ne-zero (c .before .before .before .before .before .before .before .before .before .before .if1 .left)), tt)
+put-nested-put-nested-requires t c κs = (omega (arith, c .before .before .before .before .before .before .before .before .before .before .before .pre .0, pos-of-ne-zero (c .before .before .before .before .before .before .before .before .if1 .left)), tt)
 
--- src/trees.rt:47:27
 put-nested-enum-told : (t : ℕ) → put-nested-lts.Need-enum-told (claims t) (put-nested-at t) put-nested.Post
 put-nested-enum-told t c = search needs
 
--- src/trees.rt:37:1
 put-nested-same-length : (t : ℕ) → put-nested-lts.Need-same-length (claims t) (put-nested-at t) put-nested.Post
-put-nested-same-length t c = (branch-laid _ _ _ _ (c .before .before .before .before .before .before .before .before .before .before .before .before .before .if1 .left) (c .before .before .before .before .before .before .before .before .before .before .before .before .type-description-at .ensures) (c .before .before .before .before .before .before .before .under .ensures) (c .before .before .before .before .before .below .given .1) (c .before .before .before .before .before .before .before .before .before .before .put-head .ensures) (c .before .before .put-nested .ensures)) .keeps
+put-nested-same-length t c = (branch-laid _ _ _ _ (c .before .before .before .before .before .before .before .before .before .before .before .if1 .left) refl (c .before .before .before .before .before .before .before .before .before .put-level .ensures .1) (c .before .before .before .before .before .inner .given .1) (c .before .before .before .before .before .before .before .before .before .put-level .ensures .0) (c .before .before .put-nested .ensures)) .keeps
 
--- src/trees.rt:37:1
 put-nested-returns-2 : (t : ℕ) → put-nested-lts.Need-returns-2 (claims t) (put-nested-at t) put-nested.Post
-put-nested-returns-2 t c = branch-laid _ _ _ _ (c .before .before .before .before .before .before .before .before .before .before .before .before .before .if1 .left) (c .before .before .before .before .before .before .before .before .before .before .before .before .type-description-at .ensures) (c .before .before .before .before .before .before .before .under .ensures) (c .before .before .before .before .before .below .given .1) (c .before .before .before .before .before .before .before .before .before .before .put-head .ensures) (c .before .before .put-nested .ensures)
+put-nested-returns-2 t c = branch-laid _ _ _ _ (c .before .before .before .before .before .before .before .before .before .before .before .if1 .left) refl (c .before .before .before .before .before .before .before .before .before .put-level .ensures .1) (c .before .before .before .before .before .inner .given .1) (c .before .before .before .before .before .before .before .before .before .put-level .ensures .0) (c .before .before .put-nested .ensures)
 
--- src/trees.rt:37:1
 put-nested-same-length-2 : (t : ℕ) → put-nested-lts.Need-same-length-2 (claims t) (put-nested-at t) put-nested.Post
-put-nested-same-length-2 t c = c .before .before .before .before .before .put-head .ensures .keeps
+put-nested-same-length-2 t c = c .before .before .before .before .put-level .ensures .0 .keeps
 
--- src/trees.rt:37:1
 put-nested-returns-3 : (t : ℕ) → put-nested-lts.Need-returns-3 (claims t) (put-nested-at t) put-nested.Post
-put-nested-returns-3 t c = leaf-laid _ _ _ _ (c .before .before .before .before .before .before .before .before .if1 .left) (c .before .before .before .before .before .before .before .type-description-at .ensures) (c .before .before .under .ensures) (c .enum-told .given .1) (c .before .before .before .before .before .put-head .ensures)
+put-nested-returns-3 t c = leaf-laid _ _ _ _ (c .before .before .before .before .before .before .if1 .left) refl (c .before .before .before .before .put-level .ensures .1) (c .enum-told .given .1) (c .before .before .before .before .put-level .ensures .0)
 
 pub +put-nested-spec : {M : Type 1} → statement M
 +put-nested-spec = close μ-put-nested λ t. put-nested-lts.spec (claims t)
@@ -89,10 +69,8 @@ pub +put-nested-spec : {M : Type 1} → statement M
     put-nested.Post
     (put-nested-put-refusal-requires t)
     (put-nested-returns t)
-    (put-nested-type-description-at-requires t)
-    (put-nested-put-head-requires t)
-    (put-nested-under-requires t)
-    (put-nested-enum-known-below t)
+    (put-nested-put-level-requires t)
+    (put-nested-enum-known-inner t)
     (put-nested-sub-put-nested t)
     (put-nested-put-nested-requires t)
     (put-nested-enum-told t)

@@ -1,5 +1,14 @@
-use Rattle.sheet_types.proofs.TypeLaws.{link-is}
+use Rattle.sheet_trees.proofs.PartLaws.{here-referred}
+use mathlib.Core.Path.{_≡_, refl, _∙_}
+use mathlib.Core.Logic.{⊎-elim}
+use native.Mathlib.Omega.{arith}
+use Rattle.records.specs.Answer.{value}
+use Rattle.description.specs.Format.{encode}
+use Rattle.description.specs.Sheet.{edition-one, reference}
+use Rattle.describe.specs.References.{referenceOf}
+use Rattle.emit.specs.Emit.{Emitted, put}
 use Rattle.emit.specs.Laws.{known, join}
+use Rattle.sheet_types.proofs.TypeLaws.{link-is}
 use borrow.Author.Needs.{needs}
 use Rattle.sheet_types.proofs.bases.put_link.Statement.{statement}
 use Rattle.sheet_types.proofs.bases.put_link.Tie as tie
@@ -7,29 +16,54 @@ use Rattle.sheet_types.proofs.bases.put_link.Reads as reads
 use Rattle.sheet_types.proofs.bases.put_link.Lts as lts
 use Rattle.emit.proofs.copy_u32.Reads as copy-u32-reads
 use Rattle.emit.proofs.word_at.Reads as word-at-reads
+use Rattle.sheet_trees.proofs.references.put_in_this_file.Reads as put-in-this-file-reads
 use Rattle.sheet_trees.proofs.references.put_reference.Reads as put-reference-reads
+use Rattle.util.proofs.bits.Reads as bits-reads
 
 -- src/bases.rt:101:9
 word-at-requires : tie.Need-word-at-requires
 word-at-requires c κs = search needs
 
--- src/bases.rt:102:9
+-- src/bases.rt:102:16
+bits-requires : tie.Need-bits-requires
+bits-requires c κs = search needs
+
+-- src/bases.rt:103:9
+put-in-this-file-requires : tie.Need-put-in-this-file-requires
+put-in-this-file-requires c κs = search needs
+
+-- src/bases.rt:105:9
 put-reference-requires : tie.Need-put-reference-requires
 put-reference-requires c κs = search needs
 
--- src/bases.rt:103:5
+-- src/bases.rt:107:5
 copy-u32-requires : tie.Need-copy-u32-requires
 copy-u32-requires c κs = search needs
 
+-- the reference, by either way
+referred : (c : tie.Joined1) → Emitted (value (encode (reference edition-one (c .before .before .before .before .before .args .lib .count)) (referenceOf (c .before .before .before .before .before .args .s .now) (c .before .before .before .before .before .args .lib) (c .before .before .word-at .result)))) (put (c .before .before .before .before .before .args .to)) (c .before .before .before .before .before .args .out .now) (put (c .if1 .t)) (c .if1 .out)
+referred c =
+    ⊎-elim (λ w. rw (w .5, w .6) (known (here-referred _ _ _ (omega (arith, c .before .bits .ensures, w .0 .taken))) (w .2 .ensures))) (λ w. rw (w .5, w .6) (w .2 .ensures))
+    (c .if1 .came)
+
 -- src/bases.rt:98:1
 same-length : tie.Need-same-length
-same-length c = search needs
+same-length c = c .before .before .copy-u32 .ensures .keeps ∙ referred (c .before .before .before .before) .keeps
 
 -- src/bases.rt:98:1
 returns : tie.Need-returns
-returns c = known (link-is _ _ (record { at = c .before .before .before .before .before .before .before .before .before .before .before .args .link .at; len = c .before .before .before .before .before .before .before .before .before .before .before .args .link .len }) (c .before .before .before .before .before .before .before .before .word-at .ensures)) (join (c .before .before .before .before .before .before .put-reference .ensures) (c .before .before .copy-u32 .ensures))
+returns c =
+    known (link-is _ _ (record { at = c .before .before .before .before .before .before .before .before .before .args .link .at; len = c .before .before .before .before .before .before .before .before .before .args .link .len }) (c .before .before .before .before .before .before .word-at .ensures))
+    (join (referred (c .before .before .before .before)) (c .before .before .copy-u32 .ensures))
 
 pub put-link-spec : {M : Type 1} → statement M
 put-link-spec =
     tie.close
-    (tie.spec word-at-requires put-reference-requires copy-u32-requires same-length returns)
+    (tie.spec
+    word-at-requires
+    bits-requires
+    put-in-this-file-requires
+    put-reference-requires
+    copy-u32-requires
+    same-length
+    returns)
