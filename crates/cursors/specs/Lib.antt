@@ -1,10 +1,6 @@
 -- The definitions that the contracts of `cursors` cite, and the laws that callers use of them.
 pub mod Cursors
 pub mod CursorLaws
-pub mod Search
-pub mod Tabulate
-pub mod Chain
-pub mod ChainLaws
 pub mod Members
 pub mod MemberLaws
 pub mod Told

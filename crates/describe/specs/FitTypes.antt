@@ -9,9 +9,9 @@ use Rattle.records.specs.declared.answer.Place.{Place}
 use Rattle.records.specs.declared.typeinfo.TypeInfoEntry.{TypeInfoEntry}
 use Rattle.records.specs.Layout.{typeInfoBase, refRecord}
 use Rattle.typelib.specs.declared.TypeLib.{TypeLib}
-use Rattle.cursors.specs.declared.impltypes.ImplTypeCursor.{ImplTypeCursor}
-use Rattle.cursors.specs.Chain.{implTypesOf, recordsOf}
-use Rattle.cursors.specs.ChainLaws.{records-length, walk-took, walk-most}
+use Rattle.impltypes.specs.declared.ImplTypeCursor.{ImplTypeCursor}
+use Rattle.impltypes.specs.Chain.{implTypesOf, recordsOf}
+use Rattle.impltypes.specs.ChainLaws.{records-length, walk-took, walk-most}
 use Rattle.typelib.specs.TypeInfos.{typeinfoOf}
 use Rattle.description.specs.Format.{Fits, Each}
 use Rattle.description.specs.Format as format

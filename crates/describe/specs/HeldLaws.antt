@@ -19,10 +19,10 @@ use Rattle.typelib.specs.Header.{header, parseOf}
 use Rattle.typelib.specs.Tables.{lent, segmentOf, placeIn, tablePlace}
 use Rattle.typelib.specs.TableLaws.{found as found-place}
 use Rattle.cursors.specs.CursorLaws.{lent-value}
-use Rattle.cursors.specs.declared.impltypes.ImplTypeCursor.{ImplTypeCursor}
-use Rattle.cursors.specs.Chain.{placeAt, recordsOf}
-use Rattle.cursors.specs.ChainLaws.{place-is, inside, walk-took, records}
-use Rattle.cursors.specs.Tabulate.{tabulate}
+use Rattle.impltypes.specs.declared.ImplTypeCursor.{ImplTypeCursor}
+use Rattle.impltypes.specs.Chain.{placeAt, recordsOf}
+use Rattle.impltypes.specs.ChainLaws.{place-is, inside, walk-took, records}
+use Rattle.impltypes.specs.Tabulate.{tabulate}
 use Rattle.description.specs.Format.{Each}
 use Rattle.typelib.specs.References.{Resolved, impFileAt, hrefResolved}
 use Rattle.typelib.specs.References.{internal as here, external}

@@ -23,15 +23,15 @@ use Rattle.records.specs.Layout.{sizeOf, typeInfoBase, arrayDesc, parameterInfo
 use Rattle.records.specs.Record.{limit}
 use Rattle.records.specs.RecordLaws.{Holds}
 use Rattle.typelib.specs.declared.TypeLib.{TypeLib}
-use Rattle.cursors.specs.declared.impltypes.ImplTypeCursor.{ImplTypeCursor}
-use Rattle.cursors.specs.Chain.{referenceTable, implTypesOf, returnsAt, taken, walkOf, placeAt, recordsOf}
+use Rattle.impltypes.specs.declared.ImplTypeCursor.{ImplTypeCursor}
+use Rattle.impltypes.specs.Chain.{referenceTable, implTypesOf, returnsAt, taken, walkOf, placeAt, recordsOf}
 use Rattle.constants.specs.Constants.{among}
 use Rattle.cursors.specs.Cursors.{funcsOf, varsOf, paramsOf}
 use Rattle.typelib.specs.Descriptors.{typeDescription}
 use Rattle.typelib.specs.Header.{header, word, signature, directoryAt, parseOf}
 use Rattle.typelib.specs.Tables.{lent, negative, segmentOf, placeIn}
 use Rattle.typelib.specs.TableLaws.{found-in}
-use Rattle.cursors.specs.Tabulate.{tabulate}
+use Rattle.impltypes.specs.Tabulate.{tabulate}
 use Rattle.typelib.specs.TypeInfos.{refusing, offsetWord, typeinfoIn, typeinfoOf}
 use Rattle.description.specs.Format.{Each}
 use Rattle.description.specs.Description.{Bytes, BaseShape, baseShapeOf, Tree, Library}

@@ -8,7 +8,7 @@ use Rattle.records.specs.Answer.{Answer, value, refused, map, bind}
 use Rattle.records.specs.Layout.{typeInfoBase, refRecord}
 use Rattle.records.specs.Record.{bitsOf}
 use Rattle.typelib.specs.declared.TypeLib.{TypeLib}
-use Rattle.cursors.specs.Chain.{implTypesOf, recordsOf}
+use Rattle.impltypes.specs.Chain.{implTypesOf, recordsOf}
 use Rattle.typelib.specs.TypeInfos.{typeinfoOf}
 use Rattle.description.specs.Description.{Function, Variable, ImplType, BaseShape, baseShapeOf, Base, TypeInfo}
 use Rattle.description.specs.Description.BaseShape.{absent, parent, implTypes, aliased}

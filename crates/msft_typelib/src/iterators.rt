@@ -1,6 +1,4 @@
 // Cursors: each goes in as its numbers, and comes back as bytes.
-use cursors::impltypes;
-use cursors::impltypes::ImplTypeCursor;
 use cursors::iterators;
 use cursors::iterators::FuncCursor;
 use cursors::iterators::GuidCursor;
@@ -10,6 +8,7 @@ use cursors::iterators::NameCursor;
 use cursors::iterators::ParamCursor;
 use cursors::iterators::TypeInfoCursor;
 use cursors::iterators::VarCursor;
+use impltypes::ImplTypeCursor;
 use records::answer::Place;
 use records::answer::UsizeAnswer;
 use records::func::FuncRecord;
@@ -21,7 +20,7 @@ ghost use Rattle.replies.specs.At.{chainAt, funcAt, funcsAt, guidsAt, impFilesA
 ghost use Rattle.replies.specs.Call.{laid, libraryIn, outcome, past};
 ghost use Rattle.replies.specs.Values.{chainCursor, chainStep, cursor, entryStep, funcNumbers, guidNumbers, impFileNumbers, importNumbers, nameNumbers, paramNumbers, size, step, typeinfoNumbers, varNumbers};
 ghost use Rattle.records.specs.Answer.{map, value};
-ghost use Rattle.cursors.specs.Chain.{implTypeStep, implTypesOf, walkOf};
+ghost use Rattle.impltypes.specs.Chain.{implTypeStep, implTypesOf, walkOf};
 ghost use Rattle.cursors.specs.Cursors.{funcStep, funcsOf, guidStep, guidsOf, impFileStep, impFilesOf, importStep, importsOf, nameStep, namesOf, paramStep, paramsOf, typeinfoStep, varStep, varsOf};
 ghost use Prim.Native.Nat.{_-_};
 ghost use mathlib.Core.Path.{_≡_};

@@ -2,7 +2,7 @@
 use Prim.Native.Nat.{ℕ}
 use Rattle.records.specs.declared.func.FuncRecord.{FuncRecord}
 use Rattle.records.specs.declared.typeinfo.TypeInfoEntry.{TypeInfoEntry}
-use Rattle.cursors.specs.declared.impltypes.ImplTypeCursor.{ImplTypeCursor}
+use Rattle.impltypes.specs.declared.ImplTypeCursor.{ImplTypeCursor}
 use Rattle.cursors.specs.declared.iterators.FuncCursor.{FuncCursor}
 use Rattle.cursors.specs.declared.iterators.VarCursor.{VarCursor}
 use Rattle.cursors.specs.declared.iterators.ParamCursor.{ParamCursor}

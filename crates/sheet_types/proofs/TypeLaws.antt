@@ -12,11 +12,11 @@ use Rattle.records.specs.declared.answer.Place.{Place}
 use Rattle.records.specs.declared.typeinfo.TypeInfoEntry.{TypeInfoEntry}
 use Rattle.records.specs.Answer.{Answer, value, refused, map, bind}
 use Rattle.typelib.specs.declared.TypeLib.{TypeLib}
-use Rattle.cursors.specs.declared.impltypes.ImplTypeCursor.{ImplTypeCursor}
-use Rattle.cursors.specs.Chain.{implTypesOf, offsetAt, endsAt, walkOf, placeAt, recordsOf, cursorAt, implTypeStep}
-use Rattle.cursors.specs.ChainLaws.{getD-tabulate, walk-took, step-along}
+use Rattle.impltypes.specs.declared.ImplTypeCursor.{ImplTypeCursor}
+use Rattle.impltypes.specs.Chain.{implTypesOf, offsetAt, endsAt, walkOf, placeAt, recordsOf, cursorAt, implTypeStep}
+use Rattle.impltypes.specs.ChainLaws.{getD-tabulate, walk-took, step-along}
 use Rattle.cursors.specs.Cursors.{Step, yielded, ended}
-use Rattle.cursors.specs.Tabulate.{tabulate, length-tabulate}
+use Rattle.impltypes.specs.Tabulate.{tabulate, length-tabulate}
 use Rattle.typelib.specs.TypeInfos.{typeinfoOf}
 use Rattle.description.specs.Format.{encode, opt, list, joined, leBytes}
 use Rattle.description.specs.Description.{Bytes, BaseShape, baseShapeOf, Base, Function, Variable, ImplType, TypeInfo}

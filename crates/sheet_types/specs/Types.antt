@@ -8,9 +8,9 @@ use Rattle.records.specs.Answer.{Answer, map}
 use Rattle.records.specs.Layout.{typeInfoBase}
 use Rattle.records.specs.Record.{bitsOf}
 use Rattle.typelib.specs.declared.TypeLib.{TypeLib}
-use Rattle.cursors.specs.declared.impltypes.ImplTypeCursor.{ImplTypeCursor}
-use Rattle.cursors.specs.Chain.{placeAt, recordsOf}
-use Rattle.cursors.specs.Tabulate.{tabulate}
+use Rattle.impltypes.specs.declared.ImplTypeCursor.{ImplTypeCursor}
+use Rattle.impltypes.specs.Chain.{placeAt, recordsOf}
+use Rattle.impltypes.specs.Tabulate.{tabulate}
 use Rattle.description.specs.Format.{encode, opt, list, joined, leBytes}
 use Rattle.description.specs.Description.{Bytes, BaseShape, baseShapeOf}
 use Rattle.description.specs.Sheet.{edition-one, u16, u32, guid, name, implType, base}

@@ -1,9 +1,8 @@
 // What a type is based on: the interface under it, the interfaces that it implements, or the type that it names.
-use cursors::impltypes;
-use cursors::impltypes::ImplTypeCursor;
-use cursors::impltypes::ImplTypeStep;
-use cursors::impltypes::ImplTypesAnswer;
-use cursors::impltypes::WalkAnswer;
+use impltypes::ImplTypeCursor;
+use impltypes::ImplTypeStep;
+use impltypes::ImplTypesAnswer;
+use impltypes::WalkAnswer;
 use records::refrecord::RefRecord;
 use records::typeinfo::TypeInfoEntry;
 use sheet_trees::references;
@@ -11,7 +10,7 @@ use sheet_trees::trees;
 use typelib::TypeLib;
 ghost use mathlib.Core.Path.{_≡_};
 ghost use Rattle.records.specs.Answer.{value, map};
-ghost use Rattle.cursors.specs.Chain.{walkOf, toldWalk};
+ghost use Rattle.impltypes.specs.Chain.{walkOf, toldWalk};
 ghost use Rattle.description.specs.Format.{encode, list};
 ghost use Rattle.description.specs.Sheet.{edition-one, u32, implType};
 ghost use Rattle.describe.specs.Types.{implTypeAt, implTypesAt};

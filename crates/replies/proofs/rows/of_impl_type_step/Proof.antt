@@ -1,6 +1,6 @@
 use mathlib.Core.Path.{_∙_}
 use Rattle.replies.specs.Values.{chainStep}
-use Rattle.cursors.specs.Chain.{toldImplTypeStep}
+use Rattle.impltypes.specs.Chain.{toldImplTypeStep}
 use Rattle.replies.specs.LayLaws.{shown}
 use borrow.Author.Needs.{needs}
 use Rattle.replies.proofs.rows.of_impl_type_step.Statement.{statement}

@@ -1,6 +1,6 @@
 use mathlib.Core.Path.{_∙_}
 use Rattle.replies.specs.Values.{chainCursor}
-use Rattle.cursors.specs.Chain.{toldImplTypes}
+use Rattle.impltypes.specs.Chain.{toldImplTypes}
 use Rattle.records.specs.Answer.{map}
 use Rattle.replies.specs.LayLaws.{shown}
 use borrow.Author.Needs.{needs}

@@ -1,5 +1,5 @@
 use Rattle.replies.specs.Values.{size}
-use Rattle.cursors.specs.Chain.{toldWalk}
+use Rattle.impltypes.specs.Chain.{toldWalk}
 use Rattle.records.specs.Answer.{map}
 use Rattle.replies.specs.LayLaws.{shown}
 use borrow.Author.Needs.{needs}

@@ -1,6 +1,6 @@
 use Rattle.sheet_types.proofs.TypeLaws.{chain-is, chain-refused}
 use Rattle.emit.specs.Laws.{known}
-use Rattle.cursors.specs.Chain.{toldImplTypes}
+use Rattle.impltypes.specs.Chain.{toldImplTypes}
 use mathlib.Core.Path.{ap}
 use borrow.Author.Needs.{needs}
 use Rattle.sheet_types.proofs.bases.put_chain.Statement.{statement}
@@ -9,8 +9,8 @@ use Rattle.sheet_types.proofs.bases.put_chain.Reads as reads
 use Rattle.sheet_types.proofs.bases.put_chain.Lts as lts
 use Rattle.emit.proofs.put_refusal.Reads as put-refusal-reads
 use Rattle.sheet_types.proofs.bases.put_walked.Reads as put-walked-reads
-use Rattle.cursors.proofs.impltypes.impl_types.Reads as impl-types-reads
-use Rattle.cursors.proofs.impltypes.ImplTypeCursor.walk.Reads as walk-reads
+use Rattle.impltypes.proofs.impl_types.Reads as impl-types-reads
+use Rattle.impltypes.proofs.ImplTypeCursor.walk.Reads as walk-reads
 
 -- src/bases.rt:45:11
 impl-types-requires : tie.Need-impl-types-requires

@@ -2,7 +2,7 @@ use Rattle.sheet_types.proofs.TypeLaws.{At, at-start, at-next, at-place
 use Rattle.sheet_types.specs.Types.{linksBytes}
 use Rattle.emit.specs.Laws.{Left, left-all, left-less, left-none}
 use Rattle.emit.specs.Emit.{put}
-use Rattle.cursors.specs.Chain.{toldImplTypeStep}
+use Rattle.impltypes.specs.Chain.{toldImplTypeStep}
 use Rattle.records.specs.AnswerLaws.{tells}
 use Rattle.records.specs.Answer.{value}
 use Prim.Native.Nat.{_-_}
@@ -13,7 +13,7 @@ use Rattle.sheet_types.proofs.bases.put_links.Tie as tie
 use Rattle.sheet_types.proofs.bases.put_links.Reads as reads
 use Rattle.sheet_types.proofs.bases.put_links.Lts as lts
 use Rattle.sheet_types.proofs.bases.put_link.Reads as put-link-reads
-use Rattle.cursors.proofs.impltypes.ImplTypeCursor.step.Reads as step-reads
+use Rattle.impltypes.proofs.ImplTypeCursor.step.Reads as step-reads
 
 abbrev Inv-loop : tie.InvT-loop
 Inv-loop s lib count out₀ to t₀ c₀ k₀ out t c k = Left (value (linksBytes s lib c₀ count 0)) (put t₀) out₀ (value (linksBytes s lib c₀ count k)) (put t) out × At s lib c₀ count k c

@@ -1,7 +1,7 @@
 use mathlib.Core.Path.{sym, _∙_}
 use Rattle.sheet_types.proofs.TypeLaws.{walked-is, walked-refused}
 use Rattle.emit.specs.Laws.{known, join}
-use Rattle.cursors.specs.Chain.{toldWalk}
+use Rattle.impltypes.specs.Chain.{toldWalk}
 use mathlib.Core.Path.{ap}
 use borrow.Author.Needs.{needs}
 use Rattle.sheet_types.proofs.bases.put_walked.Statement.{statement}

@@ -13,8 +13,8 @@ ghost use mathlib.Core.Path.{_≡_};
 ghost use Prim.Native.Nat.{_+_, _≤_};
 ghost use lib.ListN.{length};
 ghost use Rattle.records.specs.Told.{toldPlace};
-ghost use Rattle.cursors.specs.Chain.{implTypesOf, referenceAt, onext, implTypeStep, walkOf};
-ghost use Rattle.cursors.specs.Chain.{toldImplTypes, toldImplTypeStep, toldWalk};
+ghost use Rattle.impltypes.specs.Chain.{implTypesOf, referenceAt, onext, implTypeStep, walkOf};
+ghost use Rattle.impltypes.specs.Chain.{toldImplTypes, toldImplTypeStep, toldWalk};
 
 const REFERENCE_TABLE: usize = 3;
 

@@ -14,17 +14,17 @@ use Rattle.records.specs.Answer.{Answer, value, refused, map}
 use Rattle.records.specs.Layout.{sizeOf, offsetOf, widthOf, refRecord, typeInfoBase}
 use Rattle.records.specs.Record.{field}
 use Rattle.typelib.specs.declared.TypeLib.{TypeLib}
-use Rattle.cursors.specs.declared.impltypes.ImplTypeCursor.{ImplTypeCursor}
-use Rattle.cursors.specs.declared.impltypes.ImplTypesAnswer.{ImplTypesAnswer}
-use Rattle.cursors.specs.declared.impltypes.ImplTypesAnswer.the-variants as types
-use Rattle.cursors.specs.declared.impltypes.ImplTypeStep.{ImplTypeStep}
-use Rattle.cursors.specs.declared.impltypes.ImplTypeStep.the-variants as step
-use Rattle.cursors.specs.declared.impltypes.WalkAnswer.{WalkAnswer}
-use Rattle.cursors.specs.declared.impltypes.WalkAnswer.the-variants as walk
+use Rattle.impltypes.specs.declared.ImplTypeCursor.{ImplTypeCursor}
+use Rattle.impltypes.specs.declared.ImplTypesAnswer.{ImplTypesAnswer}
+use Rattle.impltypes.specs.declared.ImplTypesAnswer.the-variants as types
+use Rattle.impltypes.specs.declared.ImplTypeStep.{ImplTypeStep}
+use Rattle.impltypes.specs.declared.ImplTypeStep.the-variants as step
+use Rattle.impltypes.specs.declared.WalkAnswer.{WalkAnswer}
+use Rattle.impltypes.specs.declared.WalkAnswer.the-variants as walk
 use Rattle.cursors.specs.Cursors.{Step, yielded, ended}
-use Rattle.cursors.specs.Search.{someBelow, firstBelow}
+use Rattle.impltypes.specs.Search.{someBelow, firstBelow}
 use Rattle.typelib.specs.Tables.{lent, segmentOf, placeIn, tableOf}
-use Rattle.cursors.specs.Tabulate.{tabulate}
+use Rattle.impltypes.specs.Tabulate.{tabulate}
 
 -- ---- where a chain starts
 

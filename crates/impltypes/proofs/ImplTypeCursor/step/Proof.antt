@@ -1,11 +1,11 @@
-use Rattle.cursors.specs.ChainLaws.{step-is, step-record}
+use Rattle.impltypes.specs.ChainLaws.{step-is, step-record}
 use Rattle.typelib.specs.TableLaws.{lent-long, lent-fits, found-in}
 use Rattle.records.specs.Answer.{refused}
 use Rattle.records.specs.Told.{toldPlace}
 use Rattle.records.specs.AnswerLaws.{tells}
 use borrow.Author.Needs.{needs}
-use Rattle.cursors.proofs.impltypes.ImplTypeCursor.step.Statement.{statement}
-use Rattle.cursors.proofs.impltypes.ImplTypeCursor.step.Tie as tie
+use Rattle.impltypes.proofs.ImplTypeCursor.step.Statement.{statement}
+use Rattle.impltypes.proofs.ImplTypeCursor.step.Tie as tie
 
 returns : tie.Need-returns
 returns c = step-is _ _ (refused 1) (lent-long _ _ (c .if1 .taken))

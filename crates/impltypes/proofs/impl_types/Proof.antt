@@ -1,9 +1,9 @@
-use Rattle.cursors.specs.ChainLaws.{types-value}
+use Rattle.impltypes.specs.ChainLaws.{types-value}
 use Rattle.records.specs.Told.{toldU32}
 use Rattle.records.specs.AnswerLaws.{tells, map-refused}
 use borrow.Author.Needs.{needs}
-use Rattle.cursors.proofs.impltypes.impl_types.Statement.{statement}
-use Rattle.cursors.proofs.impltypes.impl_types.Tie as tie
+use Rattle.impltypes.proofs.impl_types.Statement.{statement}
+use Rattle.impltypes.proofs.impl_types.Tie as tie
 
 field-u32-requires : tie.Need-field-u32-requires
 field-u32-requires c κs = search needs

@@ -18,14 +18,14 @@ use Rattle.records.specs.Answer.{Answer, value, refused, map}
 use Rattle.records.specs.Layout.{sizeOf, refRecord, typeInfoBase}
 use Rattle.records.specs.Record.{limit, field}
 use Rattle.typelib.specs.declared.TypeLib.{TypeLib}
-use Rattle.cursors.specs.declared.impltypes.ImplTypeCursor.{ImplTypeCursor}
-use Rattle.cursors.specs.Search.{apart, Some, some-below, none-below, before-first, at-first, Twice, twice}
+use Rattle.impltypes.specs.declared.ImplTypeCursor.{ImplTypeCursor}
+use Rattle.impltypes.specs.Search.{apart, Some, some-below, none-below, before-first, at-first, Twice, twice}
 use Rattle.typelib.specs.Tables.{lent, negative, inTable, placeIn}
 use Rattle.typelib.specs.TableLaws.{lent-fits, found-in}
-use Rattle.cursors.specs.Tabulate.{tabulate, length-tabulate}
+use Rattle.impltypes.specs.Tabulate.{tabulate, length-tabulate}
 use Rattle.cursors.specs.Cursors.{yielded, ended}
-use Rattle.cursors.specs.Chain.{referenceTable, implTypesOf, referenceAt, onext, implTypeStepFrom, implTypeStep, isRefused}
-use Rattle.cursors.specs.Chain.{offsetAt, endsAt, returnsAt, taken, walkOf, placeAt, recordsOf, cursorAt, Passes, Length, Circle}
+use Rattle.impltypes.specs.Chain.{referenceTable, implTypesOf, referenceAt, onext, implTypeStepFrom, implTypeStep, isRefused}
+use Rattle.impltypes.specs.Chain.{offsetAt, endsAt, returnsAt, taken, walkOf, placeAt, recordsOf, cursorAt, Passes, Length, Circle}
 
 -- ---- lists by a rule, and places in a table
 

@@ -2,8 +2,8 @@ use Rattle.util.specs.Read.{read-zero}
 use Prim.Native.Nat.{_+_}
 use native.Mathlib.Omega.{arith}
 use borrow.Author.Needs.{needs}
-use Rattle.cursors.proofs.impltypes.next_offset.Statement.{statement}
-use Rattle.cursors.proofs.impltypes.next_offset.Tie as tie
+use Rattle.impltypes.proofs.next_offset.Statement.{statement}
+use Rattle.impltypes.proofs.next_offset.Tie as tie
 
 add-u32-or-zero : tie.Need-add-u32-or-zero
 add-u32-or-zero c = search needs

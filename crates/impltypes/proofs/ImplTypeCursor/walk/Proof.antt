@@ -1,4 +1,4 @@
-use Rattle.cursors.specs.ChainLaws.{walk-long, Stands, stands, stands-more, stands-last, stands-round}
+use Rattle.impltypes.specs.ChainLaws.{walk-long, Stands, stands, stands-more, stands-last, stands-round}
 use Rattle.typelib.specs.TableLaws.{found-in}
 use Rattle.records.specs.Told.{toldPlace}
 use Rattle.records.specs.AnswerLaws.{tells}
@@ -6,8 +6,8 @@ use native.Mathlib.Omega.{arith}
 use lib.ListN.{length}
 use Prim.Native.Nat.{_-_}
 use borrow.Author.Needs.{needs}
-use Rattle.cursors.proofs.impltypes.ImplTypeCursor.walk.Statement.{statement}
-use Rattle.cursors.proofs.impltypes.ImplTypeCursor.walk.Tie as tie
+use Rattle.impltypes.proofs.ImplTypeCursor.walk.Statement.{statement}
+use Rattle.impltypes.proofs.ImplTypeCursor.walk.Tie as tie
 
 abbrev Inv-loop : tie.InvT-loop
 Inv-loop s table offset₀ n₀ offset n = Stands s (record { table = table; next = offset₀ }) n offset
