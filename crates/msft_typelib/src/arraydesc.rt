@@ -1,9 +1,8 @@
 // A C array's descriptor, by its place.
 use records::arraydesc::ArrayDesc;
 use replies::reply;
-use replies::rows;
 ghost use Rattle.replies.specs.Call.{bits32, laid, outcome, past, reply};
-ghost use Rattle.replies.specs.Values.{bound, size};
+ghost use Rattle.rows.specs.Values.{bound, size};
 ghost use Rattle.records.specs.Answer.{map};
 ghost use Rattle.records.specs.Counted.{arrayDescSize, boundOf};
 ghost use Rattle.records.specs.Layout.{arrayDesc};

@@ -1,9 +1,8 @@
 // Descriptions of types, references and constants.
 use replies::reply;
-use replies::rows;
 use typelib::TypeLib;
 ghost use Rattle.replies.specs.Call.{laid, libraryIn, outcome, past};
-ghost use Rattle.replies.specs.Values.{constant, description, pair, place, reference, size};
+ghost use Rattle.rows.specs.Values.{constant, description, pair, place, reference, size};
 ghost use Rattle.records.specs.Answer.{map};
 ghost use Rattle.constants.specs.Constants.{constAt};
 ghost use Rattle.typelib.specs.Descriptors.{arrayDescAt, typeDescAt, typeDescription};

@@ -1,9 +1,8 @@
 // The record of a function, by its place.
 use records::func::FuncRecord;
 use replies::reply;
-use replies::rows;
 ghost use Rattle.replies.specs.Call.{bits16, bits32, laid, outcome, past, reply, truth};
-ghost use Rattle.replies.specs.Values.{place, size};
+ghost use Rattle.rows.specs.Values.{place, size};
 ghost use Rattle.records.specs.Answer.{map};
 ghost use Rattle.records.specs.Attributes.{argCustDataOffset, custDataOffset, defaultValueOffset, funcAttribute, hasArgCustData, hasCustData, hasDefaultValues};
 ghost use Rattle.records.specs.Layout.{funcRecord, sizeOf};

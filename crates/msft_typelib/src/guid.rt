@@ -1,9 +1,8 @@
 // A GUID, by its place.
 use records::guid::Guid;
 use replies::reply;
-use replies::rows;
 ghost use Rattle.replies.specs.Call.{laid, outcome, past, reply};
-ghost use Rattle.replies.specs.Values.{place};
+ghost use Rattle.rows.specs.Values.{place};
 ghost use Rattle.records.specs.Answer.{map};
 ghost use Rattle.records.specs.Layout.{guid, sizeOf};
 ghost use Rattle.records.specs.Record.{field, placeOf, recordPlace};

@@ -1,9 +1,8 @@
 // An entry of the GUID table, by its place.
 use records::guidentry::GuidEntry;
 use replies::reply;
-use replies::rows;
 ghost use Rattle.replies.specs.Call.{bits32, laid, outcome, past, reply};
-ghost use Rattle.replies.specs.Values.{place};
+ghost use Rattle.rows.specs.Values.{place};
 ghost use Rattle.records.specs.Answer.{map};
 ghost use Rattle.records.specs.Layout.{guidEntry};
 ghost use Rattle.records.specs.Record.{field, placeOf, signed32};

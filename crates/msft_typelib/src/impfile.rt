@@ -1,9 +1,8 @@
 // An import file, by its place.
 use records::impfile::ImpFile;
 use replies::reply;
-use replies::rows;
 ghost use Rattle.replies.specs.Call.{bits32, laid, outcome, past, reply};
-ghost use Rattle.replies.specs.Values.{place, size};
+ghost use Rattle.rows.specs.Values.{place, size};
 ghost use Rattle.records.specs.Answer.{map};
 ghost use Rattle.records.specs.Counted.{fileName, fileNameBytes, impFileSize};
 ghost use Rattle.records.specs.Layout.{impFile};

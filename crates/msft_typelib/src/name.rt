@@ -2,12 +2,11 @@
 use records::answer::Place;
 use records::name::NameEntry;
 use replies::reply;
-use replies::rows;
 ghost use mathlib.Core.Path.{_≡_};
 ghost use Rattle.records.specs.Answer.{map};
 ghost use Rattle.records.specs.Counted.{textAt};
 ghost use Rattle.replies.specs.Call.{laid, outcome, past};
-ghost use Rattle.replies.specs.Values.{place};
+ghost use Rattle.rows.specs.Values.{place};
 
 // The entry's name, where it is UTF-8. (Its other readings are the numbers that a step laid out.)
 #[no_mangle]

@@ -1,9 +1,8 @@
 // Segments, names, strings and GUIDs, by their offsets.
 use replies::reply;
-use replies::rows;
 use typelib::TypeLib;
 ghost use Rattle.replies.specs.Call.{laid, libraryIn, outcome, past};
-ghost use Rattle.replies.specs.Values.{place};
+ghost use Rattle.rows.specs.Values.{place};
 ghost use Rattle.records.specs.Answer.{map};
 ghost use Rattle.typelib.specs.Names.{guidPlace, libGuid, libHelpstring, libName, nameBytes, nameText, segmentBytes, stringText};
 ghost use Rattle.typelib.specs.Tables.{segmentOf};

@@ -1,9 +1,8 @@
 // A typeinfo, by its place.
 use records::typeinfo::TypeInfoEntry;
 use replies::reply;
-use replies::rows;
 ghost use Rattle.replies.specs.Call.{bits16, bits32, kindNumber, laid, outcome, past, reply};
-ghost use Rattle.replies.specs.Values.{place};
+ghost use Rattle.rows.specs.Values.{place};
 ghost use Rattle.records.specs.Answer.{map};
 ghost use Rattle.records.specs.Layout.{sizeOf, typeInfoBase};
 ghost use Rattle.records.specs.Record.{bitsOf, field, recordPlace, signed16, signed32};

@@ -1,12 +1,11 @@
 // Typeinfos, and the identifiers and names of their members.
 use records::typeinfo::TypeInfoEntry;
 use replies::reply;
-use replies::rows;
 use typelib::TypeInfoIndex;
 use typelib::TypeLib;
 ghost use Rattle.replies.specs.At.{typeinfoAt};
 ghost use Rattle.replies.specs.Call.{bits32, laid, libraryIn, outcome, past, reply};
-ghost use Rattle.replies.specs.Values.{place};
+ghost use Rattle.rows.specs.Values.{place};
 ghost use Rattle.records.specs.Answer.{map};
 ghost use Rattle.records.specs.Record.{signed32};
 ghost use Rattle.cursors.specs.Members.{memberName};

@@ -1,9 +1,8 @@
 // The record of a variable, by its place.
 use records::var::VarRecord;
 use replies::reply;
-use replies::rows;
 ghost use Rattle.replies.specs.Call.{bits16, bits32, laid, outcome, past, reply};
-ghost use Rattle.replies.specs.Values.{place, size};
+ghost use Rattle.rows.specs.Values.{place, size};
 ghost use Rattle.records.specs.Answer.{map};
 ghost use Rattle.records.specs.Attributes.{varAttribute};
 ghost use Rattle.records.specs.Layout.{sizeOf, varRecord};

@@ -4,9 +4,8 @@ use mathlib.Core.List.{List}
 use Prim.Native.Nat.{ℕ, zero, suc, _<_, _^_}
 use native.Mathlib.Omega.{arith}
 use lib.IntN.{ℤ, pos, negℤ}
-use lib.Signed.{mag}
-use mir.Syntax.{Width, w64}
-use mir.Val.{SFits, hbits, toZ, ofZ}
+use mir.Syntax.{w64}
+use mir.Val.{SFits, toZ, ofZ}
 use mir.ValLaws.{toZ-ofZ, toZ-pos}
 use Rattle.records.specs.Answer.{Answer, value, refused}
 use Rattle.typelib.specs.declared.Parsed.{Parsed}
@@ -24,10 +23,6 @@ minus-back n {z} h e = rw (e, toZ-ofZ w64 (negℤ (pos n)) (minus-fits n h), toZ
 
 pub pos-back : (n : ℕ) → n < 2 ^ 63 → toZ w64 (ofZ w64 (toZ w64 n)) ≡ pos n
 pos-back n h = rw (toZ-pos w64 n h) (toZ-ofZ w64 (pos n) (record { sfits = h }))
-
--- the bits of a signed number that a call took by its bits
-pub back : (w : Width) (x : ℤ) {n : ℕ} → mag x < 2 ^ hbits w → n ≡ ofZ w (toZ w (ofZ w x)) → n ≡ ofZ w x
-back w x h e = e ∙ ap (ofZ w) (toZ-ofZ w x (record { sfits = h }))
 
 -- ---- the library
 

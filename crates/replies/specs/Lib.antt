@@ -1,10 +1,7 @@
 -- The definitions that the contracts of `replies` and of the exports cite, and laws of them.
 pub mod Call
-pub mod Values
 pub mod At
-pub mod Told
 pub mod CallLaws
 pub mod ParseLaws
 pub mod LayLaws
-pub mod RowLaws
 pub mod Written

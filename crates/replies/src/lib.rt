@@ -1,4 +1,2 @@
-// What the exports for C share: a reply made of each kind of answer, and rows of values laid into an output.
+// What the exports for C share: a reply made of each kind of number, and rows of values laid into an output.
 pub mod reply;
-pub mod row;
-pub mod rows;

@@ -1,7 +1,5 @@
 // What the exports share: the number that `parse` refuses with, the replies, and rows laid into an
 // output.
-use crate::row;
-use crate::row::Row;
 use records::answer::BoolAnswer;
 use records::answer::I16Answer;
 use records::answer::I32Answer;
@@ -11,6 +9,8 @@ use records::answer::U32Answer;
 use records::answer::UsizeAnswer;
 use records::typeinfo::KindAnswer;
 use records::types::TypeKind;
+use rows::row;
+use rows::row::Row;
 use typelib::TypeLib;
 use typelib::typeinfos::OffsetAnswer;
 ghost use mathlib.Core.Bool.{cond};
@@ -26,7 +26,7 @@ ghost use Rattle.replies.specs.Call.{refusalOf, after, reply, bits16, bi
 ghost use Rattle.emit.specs.Emit.{put};
 ghost use Rattle.replies.specs.LayLaws.{startOf};
 ghost use Rattle.replies.specs.Written.{below};
-ghost use Rattle.replies.specs.Told.{toldRow};
+ghost use Rattle.rows.specs.Told.{toldRow};
 
 // A refusal's reply.
 pub fn minus(number: u8) -> i64

@@ -1,5 +1,5 @@
 use Rattle.replies.specs.CallLaws.{laid-as}
-use Rattle.replies.specs.Values.{size}
+use Rattle.rows.specs.Values.{size}
 use Rattle.records.specs.Answer.{map}
 use mathlib.Core.Path.{_∙_, ap}
 use borrow.Author.Needs.{needs}

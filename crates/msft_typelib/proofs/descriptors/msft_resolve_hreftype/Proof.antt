@@ -1,5 +1,5 @@
 use Rattle.replies.specs.CallLaws.{laid-as, library-is, number-is}
-use Rattle.replies.specs.Values.{size}
+use Rattle.rows.specs.Values.{size}
 use Rattle.records.specs.Answer.{map}
 use mathlib.Core.Path.{_∙_, ap, refl}
 use mir.Syntax.{w32}

@@ -1,5 +1,5 @@
 use Rattle.replies.specs.CallLaws.{laid-as}
-use Rattle.replies.specs.Values.{place}
+use Rattle.rows.specs.Values.{place}
 use Rattle.records.specs.Answer.{map}
 use mathlib.Core.Path.{_∙_, ap}
 use borrow.Author.Needs.{needs}

@@ -1,5 +1,5 @@
 use Rattle.replies.specs.CallLaws.{laid-as}
-use Rattle.replies.specs.Values.{funcNumbers, step}
+use Rattle.rows.specs.Values.{funcNumbers, step}
 use mathlib.Core.Path.{_∙_, ap}
 use borrow.Author.Needs.{needs}
 use Rattle.msft_typelib.proofs.iterators.msft_func_step.Statement.{statement}

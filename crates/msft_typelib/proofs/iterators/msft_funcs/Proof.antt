@@ -1,5 +1,5 @@
 use Rattle.replies.specs.CallLaws.{laid-as, number-is}
-use Rattle.replies.specs.Values.{cursor, funcNumbers}
+use Rattle.rows.specs.Values.{cursor, funcNumbers}
 use Rattle.records.specs.Answer.{map}
 use mathlib.Core.Path.{_∙_, ap, refl}
 use borrow.Author.Needs.{needs}

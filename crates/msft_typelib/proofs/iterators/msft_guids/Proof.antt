@@ -1,7 +1,7 @@
 use mathlib.Core.Path.{ap, _∙_}
 use Rattle.records.specs.Answer.{value}
 use Rattle.replies.specs.Call.{after, laid}
-use Rattle.replies.specs.Values.{cursor, guidNumbers}
+use Rattle.rows.specs.Values.{cursor, guidNumbers}
 use Rattle.replies.specs.CallLaws.{library-is, number-is}
 use borrow.Author.Needs.{needs}
 use Rattle.msft_typelib.proofs.iterators.msft_guids.Statement.{statement}

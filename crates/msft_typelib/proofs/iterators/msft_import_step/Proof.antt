@@ -1,5 +1,5 @@
 use Rattle.replies.specs.CallLaws.{laid-as}
-use Rattle.replies.specs.Values.{importNumbers, step}
+use Rattle.rows.specs.Values.{importNumbers, step}
 use mathlib.Core.Path.{_∙_, ap}
 use borrow.Author.Needs.{needs}
 use Rattle.msft_typelib.proofs.iterators.msft_import_step.Statement.{statement}

@@ -1,5 +1,5 @@
 use Rattle.replies.specs.CallLaws.{laid-as}
-use Rattle.replies.specs.Values.{entryStep}
+use Rattle.rows.specs.Values.{entryStep}
 use mathlib.Core.Path.{_∙_, ap}
 use borrow.Author.Needs.{needs}
 use Rattle.msft_typelib.proofs.iterators.msft_name_step.Statement.{statement}

@@ -5,7 +5,7 @@ use Rattle.msft_typelib.proofs.iterators.msft_typeinfo_size_hint.Tie as
 use Rattle.msft_typelib.proofs.iterators.msft_typeinfo_size_hint.Reads as reads
 use Rattle.msft_typelib.proofs.iterators.msft_typeinfo_size_hint.Lts as lts
 use Rattle.replies.proofs.reply.lay.Reads as lay-reads
-use Rattle.replies.proofs.rows.of_size.Reads as of-size-reads
+use Rattle.rows.proofs.of_size.Reads as of-size-reads
 use Rattle.typelib.proofs.TypeLib.parse.Reads as parse-reads
 use Rattle.cursors.proofs.iterators.TypeInfoCursor.size_hint.Reads as size-hint-reads
 

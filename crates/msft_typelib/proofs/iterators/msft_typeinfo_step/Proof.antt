@@ -1,5 +1,5 @@
 use Rattle.replies.specs.CallLaws.{laid-as, library-is, number-is}
-use Rattle.replies.specs.Values.{step, typeinfoNumbers}
+use Rattle.rows.specs.Values.{step, typeinfoNumbers}
 use mathlib.Core.Path.{_∙_, ap, refl}
 use borrow.Author.Needs.{needs}
 use Rattle.msft_typelib.proofs.iterators.msft_typeinfo_step.Statement.{statement}

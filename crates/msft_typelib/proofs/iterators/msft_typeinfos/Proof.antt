@@ -5,7 +5,7 @@ use Rattle.msft_typelib.proofs.iterators.msft_typeinfos.Tie as tie
 use Rattle.msft_typelib.proofs.iterators.msft_typeinfos.Reads as reads
 use Rattle.msft_typelib.proofs.iterators.msft_typeinfos.Lts as lts
 use Rattle.replies.proofs.reply.lay.Reads as lay-reads
-use Rattle.replies.proofs.rows.of_typeinfos.Reads as of-typeinfos-reads
+use Rattle.rows.proofs.of_typeinfos.Reads as of-typeinfos-reads
 use Rattle.typelib.proofs.TypeLib.parse.Reads as parse-reads
 use Rattle.cursors.proofs.iterators.typeinfos.Reads as typeinfos-reads
 

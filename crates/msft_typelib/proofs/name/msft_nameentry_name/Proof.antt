@@ -5,7 +5,7 @@ use Rattle.msft_typelib.proofs.name.msft_nameentry_name.Reads as reads
 use Rattle.msft_typelib.proofs.name.msft_nameentry_name.Lts as lts
 use Rattle.replies.proofs.reply.lay.Reads as lay-reads
 use Rattle.replies.proofs.reply.refusal.Reads as refusal-reads
-use Rattle.replies.proofs.rows.of_place.Reads as of-place-reads
+use Rattle.rows.proofs.of_place.Reads as of-place-reads
 use Rattle.records.proofs.name.NameEntry.name.Reads as name-reads
 
 -- src/name.rt:26:16

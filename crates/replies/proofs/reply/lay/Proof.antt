@@ -1,6 +1,6 @@
-use Rattle.replies.specs.RowLaws.{row-short}
+use Rattle.rows.specs.RowLaws.{row-short}
 use Rattle.replies.specs.LayLaws.{lay-done, lay-no-room, lay-declined}
-use Rattle.replies.specs.Told.{toldRow}
+use Rattle.rows.specs.Told.{toldRow}
 use native.Mathlib.Omega.{arith}
 use borrow.Author.Needs.{needs}
 use Rattle.replies.proofs.reply.lay.Statement.{statement}
@@ -9,7 +9,7 @@ use Rattle.replies.proofs.reply.lay.Reads as reads
 use Rattle.replies.proofs.reply.lay.Lts as lts
 use Rattle.replies.proofs.reply.minus.Reads as minus-reads
 use Rattle.replies.proofs.reply.start.Reads as start-reads
-use Rattle.replies.proofs.row.put_row.Reads as put-row-reads
+use Rattle.rows.proofs.row.put_row.Reads as put-row-reads
 
 -- src/reply.rt:211:29
 slice-aggregate-put-row : tie.Need-slice-aggregate-put-row

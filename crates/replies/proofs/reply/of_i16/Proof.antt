@@ -1,4 +1,5 @@
-use Rattle.replies.specs.CallLaws.{early, valued, declined, back}
+use Rattle.replies.specs.CallLaws.{early, valued, declined}
+use Rattle.rows.specs.ValueLaws.{back}
 use Rattle.replies.specs.Call.{bits16}
 use mir.Syntax.{w16}
 use Rattle.records.specs.Told.{toldI16}

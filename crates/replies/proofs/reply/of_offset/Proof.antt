@@ -1,4 +1,5 @@
-use Rattle.replies.specs.CallLaws.{early, valued, declined, back}
+use Rattle.replies.specs.CallLaws.{early, valued, declined}
+use Rattle.rows.specs.ValueLaws.{back}
 use Rattle.replies.specs.Call.{bits32}
 use mir.Syntax.{w32}
 use Rattle.typelib.specs.Told.{toldOffset}

@@ -1,0 +1,31 @@
+-- The bytes that a row stands for.
+use mathlib.Core.List.{List, [], _∷_, _++_}
+use Prim.Native.Nat.{ℕ}
+use Rattle.records.specs.Answer.{Answer, value, refused}
+use Rattle.typelib.specs.Told.{toldImpFile}
+use Rattle.typelib.specs.References.{external}
+use Rattle.description.specs.Format.{leBytes}
+use Rattle.rows.specs.Values.{eights, reference, constant, nameEntry, cursor, nameNumbers}
+use Rattle.rows.specs.declared.row.Longs.{Longs}
+use Rattle.rows.specs.declared.row.Longs.the-variants as longs
+use Rattle.rows.specs.declared.row.Row.{Row}
+use Rattle.rows.specs.declared.row.Row.the-variants as row
+
+abbrev pub numbersOf : Longs → List ℕ
+numbersOf (longs.One a) = a ∷ []
+numbersOf (longs.Two a b) = a ∷ b ∷ []
+numbersOf (longs.Three a b c) = a ∷ b ∷ c ∷ []
+numbersOf (longs.Four a b c d) = a ∷ b ∷ c ∷ d ∷ []
+numbersOf (longs.Five a b c d e) = a ∷ b ∷ c ∷ d ∷ e ∷ []
+
+abbrev pub toldRow : Row → Answer (List ℕ)
+toldRow (row.Plain l) = value (eights (numbersOf l))
+toldRow (row.Words a b) = value (leBytes 4 a ++ leBytes 4 b)
+toldRow (row.Chain l a) = value (eights (numbersOf l) ++ leBytes 4 a)
+toldRow (row.Marked m l) = value (m ∷ eights (numbersOf l))
+toldRow (row.Half m a) = value (m ∷ leBytes 2 a)
+toldRow (row.Word m a) = value (m ∷ leBytes 4 a)
+toldRow (row.Import p f) = value (reference (external p (toldImpFile f)))
+toldRow (row.Constant v) = value (constant v)
+toldRow (row.Entry e c) = value (nameEntry e ++ cursor nameNumbers c)
+toldRow (row.Refused n) = refused n
