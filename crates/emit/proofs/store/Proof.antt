@@ -7,8 +7,6 @@ use mathlib.Core.Path.{_≡_, refl}
 use Prim.Native.Nat.{_+_, _-_}
 use Rattle.emit.proofs.store.Statement.{statement}
 use Rattle.emit.proofs.store.Tie as tie
-use Rattle.emit.proofs.store.Reads as reads
-use Rattle.emit.proofs.store.Lts as lts
 
 abbrev Inv-loop : tie.InvT-loop
 Inv-loop bytes out₀ at count i₀ out i = (sets out (at + i) (drop i bytes) ≡ sets out₀ at bytes) × (length out ≡ length out₀)
@@ -16,39 +14,30 @@ Inv-loop bytes out₀ at count i₀ out i = (sets out (at + i) (drop i bytes) �
 abbrev μ-loop : tie.MeasureT-loop
 μ-loop bytes out₀ at count i₀ out i = count - i
 
--- src/lib.rt:127:5
 loop-holds : tie.Need-loop-holds Inv-loop μ-loop
 loop-holds c = (rw (add-zero (c .args .at)), refl)
 
--- src/lib.rt:128:23
 shared-slice-read-out : tie.Need-shared-slice-read-out Inv-loop μ-loop
 shared-slice-read-out c = omega arith
 
--- src/lib.rt:128:13
 add-out : tie.Need-add-out Inv-loop μ-loop
 add-out c = omega arith
 
--- src/lib.rt:128:9
 slice-write-out : tie.Need-slice-write-out Inv-loop μ-loop
 slice-write-out c = omega arith
 
--- src/lib.rt:129:9
 add-i : tie.Need-add-i Inv-loop μ-loop
 add-i c = omega arith
 
--- src/lib.rt:127:5
 loop-less : tie.Need-loop-less Inv-loop μ-loop
 loop-less c = omega arith
 
--- src/lib.rt:127:5
 loop-again : tie.Need-loop-again Inv-loop μ-loop
 loop-again c = (copy-turn (c .before .before .loop .out) _ (c .before .before .before .args .bytes .now) (c .before .before .before .args .at) (c .before .before .loop .i) (omega arith) (c .before .before .loop .inv .0), simp length-set (c .before .before .loop .inv .1))
 
--- src/lib.rt:121:1
 same-length : tie.Need-same-length Inv-loop μ-loop
 same-length c = c .before .loop .inv .1
 
--- src/lib.rt:121:1
 returns : tie.Need-returns Inv-loop μ-loop
 returns c = copy-done (c .before .loop .out) _ (c .before .before .args .bytes .now) (c .before .before .args .at) (c .before .loop .i) (omega arith) (c .before .loop .inv .0)
 

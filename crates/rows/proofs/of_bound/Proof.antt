@@ -11,27 +11,19 @@ use Rattle.records.specs.Answer.{map}
 use borrow.Author.Needs.{needs}
 use Rattle.rows.proofs.of_bound.Statement.{statement}
 use Rattle.rows.proofs.of_bound.Tie as tie
-use Rattle.rows.proofs.of_bound.Reads as reads
-use Rattle.rows.proofs.of_bound.Lts as lts
-use Rattle.util.proofs.unsigned32.Reads as unsigned32-reads
 
--- src/lib.rt:139:28
 enum-known-a : tie.Need-enum-known-a
 enum-known-a c = search needs
 
--- src/lib.rt:139:57
 unsigned32-requires : tie.Need-unsigned32-requires
 unsigned32-requires c κs = search needs
 
--- src/lib.rt:140:30
 enum-known-a-2 : tie.Need-enum-known-a-2
 enum-known-a-2 c = search needs
 
--- src/lib.rt:135:1
 returns : tie.Need-returns
 returns c = ap (λ (k : ℕ). value (leBytes 4 (c .before .before .before .a .given .0 .0 .elements) ++ leBytes 4 k)) (back w32 (c .before .before .before .a .given .0 .0 .lower) (c .before .struct-told .given .1 .0 .1) (c .unsigned32 .ensures)) ∙ shown (λ a. map bound (toldBound a)) (c .before .before .before .a .given .1)
 
--- src/lib.rt:135:1
 returns-2 : tie.Need-returns-2
 returns-2 c = shown (λ a. map bound (toldBound a)) (c .before .a2 .given .1)
 

@@ -6,27 +6,19 @@ use Rattle.rows.specs.ValueLaws.{shown}
 use borrow.Author.Needs.{needs}
 use Rattle.rows.proofs.of_description.Statement.{statement}
 use Rattle.rows.proofs.of_description.Tie as tie
-use Rattle.rows.proofs.of_description.Reads as reads
-use Rattle.rows.proofs.of_description.Lts as lts
-use Rattle.rows.proofs.described.Reads as described-reads
 
--- src/lib.rt:166:34
 enum-known-a : tie.Need-enum-known-a
 enum-known-a c = search needs
 
--- src/lib.rt:166:40
 described-requires : tie.Need-described-requires
 described-requires c κs = search needs
 
--- src/lib.rt:167:36
 enum-known-a-2 : tie.Need-enum-known-a-2
 enum-known-a-2 c = search needs
 
--- src/lib.rt:162:1
 returns : tie.Need-returns
 returns c = c .described .ensures ∙ shown (λ a. map description (toldDescription a)) (c .before .before .a .given .1)
 
--- src/lib.rt:162:1
 returns-2 : tie.Need-returns-2
 returns-2 c = shown (λ a. map description (toldDescription a)) (c .before .a2 .given .1)
 

@@ -6,22 +6,16 @@ use Rattle.rows.specs.ValueLaws.{shown}
 use borrow.Author.Needs.{needs}
 use Rattle.rows.proofs.of_funcs.Statement.{statement}
 use Rattle.rows.proofs.of_funcs.Tie as tie
-use Rattle.rows.proofs.of_funcs.Reads as reads
-use Rattle.rows.proofs.of_funcs.Lts as lts
 
--- src/lib.rt:211:28
 enum-known-a : tie.Need-enum-known-a
 enum-known-a c = search needs
 
--- src/lib.rt:216:30
 enum-known-a-2 : tie.Need-enum-known-a-2
 enum-known-a-2 c = search needs
 
--- src/lib.rt:207:1
 returns : tie.Need-returns
 returns c = shown (λ a. map (cursor funcNumbers) (toldFuncs a)) (c .before .a .given .1)
 
--- src/lib.rt:207:1
 returns-2 : tie.Need-returns-2
 returns-2 c = shown (λ a. map (cursor funcNumbers) (toldFuncs a)) (c .before .a2 .given .1)
 

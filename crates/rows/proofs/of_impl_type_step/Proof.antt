@@ -5,27 +5,19 @@ use Rattle.rows.specs.ValueLaws.{shown}
 use borrow.Author.Needs.{needs}
 use Rattle.rows.proofs.of_impl_type_step.Statement.{statement}
 use Rattle.rows.proofs.of_impl_type_step.Tie as tie
-use Rattle.rows.proofs.of_impl_type_step.Reads as reads
-use Rattle.rows.proofs.of_impl_type_step.Lts as lts
-use Rattle.rows.proofs.link.Reads as link-reads
 
--- src/lib.rt:396:30
 enum-known-a : tie.Need-enum-known-a
 enum-known-a c = search needs
 
--- src/lib.rt:396:39
 link-requires : tie.Need-link-requires
 link-requires c κs = search needs
 
--- src/lib.rt:397:31
 enum-known-a-2 : tie.Need-enum-known-a-2
 enum-known-a-2 c = search needs
 
--- src/lib.rt:392:1
 returns : tie.Need-returns
 returns c = c .link .ensures ∙ shown (λ a. chainStep (toldImplTypeStep a)) (c .before .before .a .given .1)
 
--- src/lib.rt:392:1
 returns-2 : tie.Need-returns-2
 returns-2 c = shown (λ a. chainStep (toldImplTypeStep a)) (c .before .a2 .given .1)
 

@@ -6,27 +6,19 @@ use Rattle.rows.specs.ValueLaws.{shown}
 use borrow.Author.Needs.{needs}
 use Rattle.rows.proofs.of_impl_types.Statement.{statement}
 use Rattle.rows.proofs.of_impl_types.Tie as tie
-use Rattle.rows.proofs.of_impl_types.Reads as reads
-use Rattle.rows.proofs.of_impl_types.Lts as lts
-use Rattle.rows.proofs.chain.Reads as chain-reads
 
--- src/lib.rt:380:32
 enum-known-a : tie.Need-enum-known-a
 enum-known-a c = search needs
 
--- src/lib.rt:380:38
 chain-requires : tie.Need-chain-requires
 chain-requires c κs = search needs
 
--- src/lib.rt:381:34
 enum-known-a-2 : tie.Need-enum-known-a-2
 enum-known-a-2 c = search needs
 
--- src/lib.rt:376:1
 returns : tie.Need-returns
 returns c = c .chain .ensures ∙ shown (λ a. map chainCursor (toldImplTypes a)) (c .before .before .a .given .1)
 
--- src/lib.rt:376:1
 returns-2 : tie.Need-returns-2
 returns-2 c = shown (λ a. map chainCursor (toldImplTypes a)) (c .before .a2 .given .1)
 

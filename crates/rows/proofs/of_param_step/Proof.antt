@@ -5,22 +5,16 @@ use Rattle.rows.specs.ValueLaws.{shown}
 use borrow.Author.Needs.{needs}
 use Rattle.rows.proofs.of_param_step.Statement.{statement}
 use Rattle.rows.proofs.of_param_step.Tie as tie
-use Rattle.rows.proofs.of_param_step.Reads as reads
-use Rattle.rows.proofs.of_param_step.Lts as lts
 
--- src/lib.rt:310:27
 enum-known-a : tie.Need-enum-known-a
 enum-known-a c = search needs
 
--- src/lib.rt:317:28
 enum-known-a-2 : tie.Need-enum-known-a-2
 enum-known-a-2 c = search needs
 
--- src/lib.rt:306:1
 returns : tie.Need-returns
 returns c = shown (λ a. step paramNumbers (toldParamStep a)) (c .before .a .given .1)
 
--- src/lib.rt:306:1
 returns-2 : tie.Need-returns-2
 returns-2 c = shown (λ a. step paramNumbers (toldParamStep a)) (c .before .a2 .given .1)
 

@@ -6,22 +6,16 @@ use Rattle.rows.specs.ValueLaws.{shown}
 use borrow.Author.Needs.{needs}
 use Rattle.rows.proofs.of_params.Statement.{statement}
 use Rattle.rows.proofs.of_params.Tie as tie
-use Rattle.rows.proofs.of_params.Reads as reads
-use Rattle.rows.proofs.of_params.Lts as lts
 
--- src/lib.rt:237:29
 enum-known-a : tie.Need-enum-known-a
 enum-known-a c = search needs
 
--- src/lib.rt:242:31
 enum-known-a-2 : tie.Need-enum-known-a-2
 enum-known-a-2 c = search needs
 
--- src/lib.rt:233:1
 returns : tie.Need-returns
 returns c = shown (λ a. map (cursor paramNumbers) (toldParams a)) (c .before .a .given .1)
 
--- src/lib.rt:233:1
 returns-2 : tie.Need-returns-2
 returns-2 c = shown (λ a. map (cursor paramNumbers) (toldParams a)) (c .before .a2 .given .1)
 

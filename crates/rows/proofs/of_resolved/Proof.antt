@@ -6,27 +6,19 @@ use Rattle.rows.specs.ValueLaws.{shown}
 use borrow.Author.Needs.{needs}
 use Rattle.rows.proofs.of_resolved.Statement.{statement}
 use Rattle.rows.proofs.of_resolved.Tie as tie
-use Rattle.rows.proofs.of_resolved.Reads as reads
-use Rattle.rows.proofs.of_resolved.Lts as lts
-use Rattle.rows.proofs.resolved.Reads as resolved-reads
 
--- src/lib.rt:187:31
 enum-known-a : tie.Need-enum-known-a
 enum-known-a c = search needs
 
--- src/lib.rt:187:37
 resolved-requires : tie.Need-resolved-requires
 resolved-requires c κs = search needs
 
--- src/lib.rt:188:33
 enum-known-a-2 : tie.Need-enum-known-a-2
 enum-known-a-2 c = search needs
 
--- src/lib.rt:183:1
 returns : tie.Need-returns
 returns c = c .resolved .ensures ∙ shown (λ a. map reference (toldResolved a)) (c .before .before .a .given .1)
 
--- src/lib.rt:183:1
 returns-2 : tie.Need-returns-2
 returns-2 c = shown (λ a. map reference (toldResolved a)) (c .before .a2 .given .1)
 

@@ -5,22 +5,16 @@ use Rattle.rows.specs.ValueLaws.{shown}
 use borrow.Author.Needs.{needs}
 use Rattle.rows.proofs.resolved.Statement.{statement}
 use Rattle.rows.proofs.resolved.Tie as tie
-use Rattle.rows.proofs.resolved.Reads as reads
-use Rattle.rows.proofs.resolved.Lts as lts
 
--- src/lib.rt:196:36
 enum-known-x : tie.Need-enum-known-x
 enum-known-x c = search needs
 
--- src/lib.rt:197:36
 enum-known-x-2 : tie.Need-enum-known-x-2
 enum-known-x-2 c = search needs
 
--- src/lib.rt:192:1
 returns : tie.Need-returns
 returns c = shown (λ x. value (reference (toldHreftype x))) (c .before .x .given .1)
 
--- src/lib.rt:192:1
 returns-2 : tie.Need-returns-2
 returns-2 c = shown (λ x. value (reference (toldHreftype x))) (c .before .x2 .given .1)
 

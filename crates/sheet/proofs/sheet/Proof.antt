@@ -2,32 +2,22 @@ use Rattle.sheet.proofs.CallLaws.{call-refused, call-many, call-answere
 use borrow.Author.Needs.{needs}
 use Rattle.sheet.proofs.sheet.Statement.{statement}
 use Rattle.sheet.proofs.sheet.Tie as tie
-use Rattle.sheet.proofs.sheet.Reads as reads
-use Rattle.sheet.proofs.sheet.Lts as lts
-use Rattle.sheet.proofs.write.Reads as write-reads
-use Rattle.typelib.proofs.TypeLib.parse.Reads as parse-reads
 
--- src/lib.rt:28:9
 parse-requires : tie.Need-parse-requires
 parse-requires c κs = search needs
 
--- src/lib.rt:30:9
 returns : tie.Need-returns
 returns c = call-refused _ _ (c .before .before .parse .ensures) (c .if1 .taken)
 
--- src/lib.rt:34:9
 returns-2 : tie.Need-returns-2
 returns-2 c = call-many _ _ (c .before .before .before .before .before .parse .ensures) (c .before .before .before .if1 .left) (c .if2 .taken)
 
--- src/lib.rt:36:5
 write-requires : tie.Need-write-requires
 write-requires c κs = search needs
 
--- src/lib.rt:25:1
 same-length : tie.Need-same-length
 same-length c = search needs
 
--- src/lib.rt:25:1
 returns-3 : tie.Need-returns-3
 returns-3 c = call-answered _ _ (c .before .before .before .before .before .before .before .before .before .parse .ensures) (c .before .before .before .before .before .before .before .if1 .left) (c .before .before .before .before .if2 .left) (c .before .before .write .ensures)
 

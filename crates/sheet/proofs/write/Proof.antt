@@ -5,56 +5,40 @@ use native.Mathlib.Omega.{arith}
 use borrow.Author.Needs.{needs}
 use Rattle.sheet.proofs.write.Statement.{statement}
 use Rattle.sheet.proofs.write.Tie as tie
-use Rattle.sheet.proofs.write.Reads as reads
-use Rattle.sheet.proofs.write.Lts as lts
-use Rattle.sheet.proofs.contents.put_sheet.Reads as put-sheet-reads
-use Rattle.sheet.proofs.measure.Reads as measure-reads
 
--- src/lib.rt:42:9
 measure-requires : tie.Need-measure-requires
 measure-requires c κs = search needs
 
--- src/lib.rt:44:39
 sub-t6 : tie.Need-sub-t6
 sub-t6 c = search needs
 
--- src/lib.rt:44:39
 sub-t7 : tie.Need-sub-t7
 sub-t7 c = search needs
 
--- src/lib.rt:44:37
 cast-t9 : tie.Need-cast-t9
 cast-t9 c = search needs
 
--- src/lib.rt:44:9
 returns : tie.Need-returns
 returns c = whole-refused _ _ (c .before .measure .ensures) (c .if1 .taken) (omega arith)
 
--- src/lib.rt:47:9
 returns-2 : tie.Need-returns-2
 returns-2 c = whole-long _ _ (c .before .before .measure .ensures) (c .before .if1 .left) (c .if2 .taken)
 
--- src/lib.rt:50:9
 returns-3 : tie.Need-returns-3
 returns-3 c = whole-short _ _ (c .before .before .before .measure .ensures) (c .before .if2 .left) (c .if3 .taken)
 
--- src/lib.rt:52:33
 slice-relend-prefix-put-sheet : tie.Need-slice-relend-prefix-put-sheet
 slice-relend-prefix-put-sheet c = search needs
 
--- src/lib.rt:52:33
 slice-aggregate-put-sheet : tie.Need-slice-aggregate-put-sheet
 slice-aggregate-put-sheet c = sym (length-take-le _ _ (c .before .if3 .left))
 
--- src/lib.rt:52:5
 put-sheet-requires : tie.Need-put-sheet-requires
 put-sheet-requires c κs = search needs
 
--- src/lib.rt:38:1
 same-length : tie.Need-same-length
 same-length c = search needs
 
--- src/lib.rt:38:1
 returns-4 : tie.Need-returns-4
 returns-4 c = whole-done _ _ (c .before .before .before .before .before .before .before .measure .ensures) (c .before .before .before .before .before .if2 .left) (c .before .before .before .before .if3 .left) (c .before .before .put-sheet .ensures)
 

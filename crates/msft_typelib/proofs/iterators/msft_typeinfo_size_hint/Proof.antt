@@ -2,34 +2,22 @@ use Rattle.replies.specs.CallLaws.{number-is, library-is}
 use borrow.Author.Needs.{needs}
 use Rattle.msft_typelib.proofs.iterators.msft_typeinfo_size_hint.Statement.{statement}
 use Rattle.msft_typelib.proofs.iterators.msft_typeinfo_size_hint.Tie as tie
-use Rattle.msft_typelib.proofs.iterators.msft_typeinfo_size_hint.Reads as reads
-use Rattle.msft_typelib.proofs.iterators.msft_typeinfo_size_hint.Lts as lts
-use Rattle.replies.proofs.reply.lay.Reads as lay-reads
-use Rattle.rows.proofs.of_size.Reads as of-size-reads
-use Rattle.typelib.proofs.TypeLib.parse.Reads as parse-reads
-use Rattle.cursors.proofs.iterators.TypeInfoCursor.size_hint.Reads as size-hint-reads
 
--- src/iterators.rt:298:9
 parse-requires : tie.Need-parse-requires
 parse-requires c κs = search needs
 
--- src/iterators.rt:300:9
 size-hint-requires : tie.Need-size-hint-requires
 size-hint-requires c κs = search needs
 
--- src/iterators.rt:301:26
 of-size-requires : tie.Need-of-size-requires
 of-size-requires c κs = search needs
 
--- src/iterators.rt:301:5
 lay-requires : tie.Need-lay-requires
 lay-requires c κs = search needs
 
--- src/iterators.rt:294:1
 same-length : tie.Need-same-length
 same-length c = search needs
 
--- src/iterators.rt:294:1
 returns : tie.Need-returns
 returns c = rw (library-is (c .before .before .before .before .before .before .before .before .before .before .args .s .now) (c .before .before .before .before .before .before .before .parse .result) (c .before .before .before .before .before .before .before .parse .ensures), number-is (c .before .before .before .before .before .before .before .before .before .before .args .s .now) (c .before .before .before .before .before .before .before .parse .result) (c .before .before .before .before .before .before .before .parse .ensures)) (cc)
 

@@ -2,24 +2,16 @@ use Rattle.msft_typelib.specs.Sheets.{sheet-told}
 use borrow.Author.Needs.{needs}
 use Rattle.msft_typelib.proofs.sheets.msft_sheet.Statement.{statement}
 use Rattle.msft_typelib.proofs.sheets.msft_sheet.Tie as tie
-use Rattle.msft_typelib.proofs.sheets.msft_sheet.Reads as reads
-use Rattle.msft_typelib.proofs.sheets.msft_sheet.Lts as lts
-use Rattle.replies.proofs.reply.of_written.Reads as of-written-reads
-use Rattle.sheet.proofs.sheet.Reads as sheet-reads
 
--- src/sheets.rt:13:23
 sheet-requires : tie.Need-sheet-requires
 sheet-requires c κs = search needs
 
--- src/sheets.rt:13:5
 of-written-requires : tie.Need-of-written-requires
 of-written-requires c κs = search needs
 
--- src/sheets.rt:9:1
 same-length : tie.Need-same-length
 same-length c = search needs
 
--- src/sheets.rt:9:1
 returns : tie.Need-returns
 returns c = sheet-told _ (c .before .before .before .sheet .ensures) (c .of-written .ensures)
 

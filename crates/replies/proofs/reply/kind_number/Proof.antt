@@ -3,86 +3,66 @@ use mathlib.Core.Path.{sym, ap}
 use borrow.Author.Needs.{needs}
 use Rattle.replies.proofs.reply.kind_number.Statement.{statement}
 use Rattle.replies.proofs.reply.kind_number.Tie as tie
-use Rattle.replies.proofs.reply.kind_number.Reads as reads
-use Rattle.replies.proofs.reply.kind_number.Lts as lts
 
--- src/reply.rt:149:27
 enum-told : tie.Need-enum-told
 enum-told c = search needs
 
--- src/reply.rt:150:29
 enum-told-2 : tie.Need-enum-told-2
 enum-told-2 c = search needs
 
--- src/reply.rt:151:29
 enum-told-3 : tie.Need-enum-told-3
 enum-told-3 c = search needs
 
--- src/reply.rt:152:32
 enum-told-4 : tie.Need-enum-told-4
 enum-told-4 c = search needs
 
--- src/reply.rt:153:31
 enum-told-5 : tie.Need-enum-told-5
 enum-told-5 c = search needs
 
--- src/reply.rt:154:30
 enum-told-6 : tie.Need-enum-told-6
 enum-told-6 c = search needs
 
--- src/reply.rt:155:28
 enum-told-7 : tie.Need-enum-told-7
 enum-told-7 c = search needs
 
--- src/reply.rt:156:28
 enum-told-8 : tie.Need-enum-told-8
 enum-told-8 c = search needs
 
--- src/reply.rt:157:27
 enum-known-kind : tie.Need-enum-known-kind
 enum-known-kind c = search needs
 
--- src/reply.rt:145:1
 returns : tie.Need-returns
 unfolding kindNumber
 returns c = ap kindNumber (sym (c .enum-told .given .1))
 
--- src/reply.rt:145:1
 returns-2 : tie.Need-returns-2
 unfolding kindNumber
 returns-2 c = ap kindNumber (sym (c .enum-told2 .given .1))
 
--- src/reply.rt:145:1
 returns-3 : tie.Need-returns-3
 unfolding kindNumber
 returns-3 c = ap kindNumber (sym (c .enum-told3 .given .1))
 
--- src/reply.rt:145:1
 returns-4 : tie.Need-returns-4
 unfolding kindNumber
 returns-4 c = ap kindNumber (sym (c .enum-told4 .given .1))
 
--- src/reply.rt:145:1
 returns-5 : tie.Need-returns-5
 unfolding kindNumber
 returns-5 c = ap kindNumber (sym (c .enum-told5 .given .1))
 
--- src/reply.rt:145:1
 returns-6 : tie.Need-returns-6
 unfolding kindNumber
 returns-6 c = ap kindNumber (sym (c .enum-told6 .given .1))
 
--- src/reply.rt:145:1
 returns-7 : tie.Need-returns-7
 unfolding kindNumber
 returns-7 c = ap kindNumber (sym (c .enum-told7 .given .1))
 
--- src/reply.rt:145:1
 returns-8 : tie.Need-returns-8
 unfolding kindNumber
 returns-8 c = ap kindNumber (sym (c .enum-told8 .given .1))
 
--- src/reply.rt:145:1
 returns-9 : tie.Need-returns-9
 unfolding kindNumber
 returns-9 c = ap kindNumber (sym (c .before .kind .given .1))

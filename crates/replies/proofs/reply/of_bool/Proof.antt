@@ -7,44 +7,31 @@ use mathlib.Core.Path.{refl, ap}
 use borrow.Author.Needs.{needs}
 use Rattle.replies.proofs.reply.of_bool.Statement.{statement}
 use Rattle.replies.proofs.reply.of_bool.Tie as tie
-use Rattle.replies.proofs.reply.of_bool.Reads as reads
-use Rattle.replies.proofs.reply.of_bool.Lts as lts
-use Rattle.replies.proofs.reply.bit.Reads as bit-reads
-use Rattle.replies.proofs.reply.minus.Reads as minus-reads
 
--- src/reply.rt:108:9
 minus-requires : tie.Need-minus-requires
 minus-requires c κs = search needs
 
--- src/reply.rt:108:9
 returns : tie.Need-returns
 returns c = early (λ a. truth (toldBool a)) _ (c .before .before .args .a) (omega arith) (c .before .if1 .taken) (c .minus .ensures)
 
--- src/reply.rt:111:27
 enum-known-a : tie.Need-enum-known-a
 enum-known-a c = search needs
 
--- src/reply.rt:111:33
 bit-requires : tie.Need-bit-requires
 bit-requires c κs = search needs
 
--- src/reply.rt:111:33
 cast-result : tie.Need-cast-result
 cast-result c = search needs
 
--- src/reply.rt:112:29
 enum-known-a-2 : tie.Need-enum-known-a-2
 enum-known-a-2 c = search needs
 
--- src/reply.rt:112:35
 minus-requires-2 : tie.Need-minus-requires-2
 minus-requires-2 c κs = search needs
 
--- src/reply.rt:104:1
 returns-2 : tie.Need-returns-2
 returns-2 c = valued (λ a. truth (toldBool a)) _ _ (omega arith) (c .before .before .before .before .if1 .left) (c .before .before .a .given .1) (ap value (c .bit .ensures))
 
--- src/reply.rt:104:1
 returns-3 : tie.Need-returns-3
 returns-3 c = declined (λ a. truth (toldBool a)) _ _ (omega arith) (c .before .before .before .before .if1 .left) (c .before .before .a2 .given .1) refl (c .minus2 .ensures)
 

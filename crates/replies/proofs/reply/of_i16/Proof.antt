@@ -9,44 +9,31 @@ use mathlib.Core.Path.{refl, ap}
 use borrow.Author.Needs.{needs}
 use Rattle.replies.proofs.reply.of_i16.Statement.{statement}
 use Rattle.replies.proofs.reply.of_i16.Tie as tie
-use Rattle.replies.proofs.reply.of_i16.Reads as reads
-use Rattle.replies.proofs.reply.of_i16.Lts as lts
-use Rattle.replies.proofs.reply.minus.Reads as minus-reads
-use Rattle.replies.proofs.reply.unsigned16.Reads as unsigned16-reads
 
--- src/reply.rt:96:9
 minus-requires : tie.Need-minus-requires
 minus-requires c κs = search needs
 
--- src/reply.rt:96:9
 returns : tie.Need-returns
 returns c = early (λ a. bits16 (toldI16 a)) _ (c .before .before .args .a) (omega arith) (c .before .if1 .taken) (c .minus .ensures)
 
--- src/reply.rt:99:26
 enum-known-a : tie.Need-enum-known-a
 enum-known-a c = search needs
 
--- src/reply.rt:99:32
 unsigned16-requires : tie.Need-unsigned16-requires
 unsigned16-requires c κs = search needs
 
--- src/reply.rt:99:32
 cast-result : tie.Need-cast-result
 cast-result c = search needs
 
--- src/reply.rt:100:28
 enum-known-a-2 : tie.Need-enum-known-a-2
 enum-known-a-2 c = search needs
 
--- src/reply.rt:100:34
 minus-requires-2 : tie.Need-minus-requires-2
 minus-requires-2 c κs = search needs
 
--- src/reply.rt:92:1
 returns-2 : tie.Need-returns-2
 returns-2 c = valued (λ a. bits16 (toldI16 a)) _ _ (omega arith) (c .before .before .before .before .if1 .left) (c .before .before .a .given .1) (ap value (back w16 (c .before .before .a .given .0 .0) (c .before .known-told .given .0 .1) (c .unsigned16 .ensures)))
 
--- src/reply.rt:92:1
 returns-3 : tie.Need-returns-3
 returns-3 c = declined (λ a. bits16 (toldI16 a)) _ _ (omega arith) (c .before .before .before .before .if1 .left) (c .before .before .a2 .given .1) refl (c .minus2 .ensures)
 

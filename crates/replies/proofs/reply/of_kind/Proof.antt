@@ -7,44 +7,31 @@ use mathlib.Core.Path.{refl, ap}
 use borrow.Author.Needs.{needs}
 use Rattle.replies.proofs.reply.of_kind.Statement.{statement}
 use Rattle.replies.proofs.reply.of_kind.Tie as tie
-use Rattle.replies.proofs.reply.of_kind.Reads as reads
-use Rattle.replies.proofs.reply.of_kind.Lts as lts
-use Rattle.replies.proofs.reply.kind_number.Reads as kind-number-reads
-use Rattle.replies.proofs.reply.minus.Reads as minus-reads
 
--- src/reply.rt:120:9
 minus-requires : tie.Need-minus-requires
 minus-requires c κs = search needs
 
--- src/reply.rt:120:9
 returns : tie.Need-returns
 returns c = early (λ a. map kindNumber (toldKind a)) _ (c .before .before .args .a) (omega arith) (c .before .if1 .taken) (c .minus .ensures)
 
--- src/reply.rt:123:27
 enum-known-a : tie.Need-enum-known-a
 enum-known-a c = search needs
 
--- src/reply.rt:123:36
 kind-number-requires : tie.Need-kind-number-requires
 kind-number-requires c κs = search needs
 
--- src/reply.rt:123:36
 cast-result : tie.Need-cast-result
 cast-result c = search needs
 
--- src/reply.rt:124:29
 enum-known-a-2 : tie.Need-enum-known-a-2
 enum-known-a-2 c = search needs
 
--- src/reply.rt:124:35
 minus-requires-2 : tie.Need-minus-requires-2
 minus-requires-2 c κs = search needs
 
--- src/reply.rt:116:1
 returns-2 : tie.Need-returns-2
 returns-2 c = valued (λ a. map kindNumber (toldKind a)) _ _ (omega arith) (c .before .before .before .before .if1 .left) (c .before .before .a .given .1) (ap value (c .kind-number .ensures))
 
--- src/reply.rt:116:1
 returns-3 : tie.Need-returns-3
 returns-3 c = declined (λ a. map kindNumber (toldKind a)) _ _ (omega arith) (c .before .before .before .before .if1 .left) (c .before .before .a2 .given .1) refl (c .minus2 .ensures)
 

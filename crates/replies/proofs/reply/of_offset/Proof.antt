@@ -9,44 +9,31 @@ use mathlib.Core.Path.{refl, ap}
 use borrow.Author.Needs.{needs}
 use Rattle.replies.proofs.reply.of_offset.Statement.{statement}
 use Rattle.replies.proofs.reply.of_offset.Tie as tie
-use Rattle.replies.proofs.reply.of_offset.Reads as reads
-use Rattle.replies.proofs.reply.of_offset.Lts as lts
-use Rattle.replies.proofs.reply.minus.Reads as minus-reads
-use Rattle.util.proofs.unsigned32.Reads as unsigned32-reads
 
--- src/reply.rt:134:9
 minus-requires : tie.Need-minus-requires
 minus-requires c κs = search needs
 
--- src/reply.rt:134:9
 returns : tie.Need-returns
 returns c = early (λ a. bits32 (toldOffset a)) _ (c .before .before .args .a) (omega arith) (c .before .if1 .taken) (c .minus .ensures)
 
--- src/reply.rt:137:29
 enum-known-a : tie.Need-enum-known-a
 enum-known-a c = search needs
 
--- src/reply.rt:137:35
 unsigned32-requires : tie.Need-unsigned32-requires
 unsigned32-requires c κs = search needs
 
--- src/reply.rt:137:35
 cast-result : tie.Need-cast-result
 cast-result c = search needs
 
--- src/reply.rt:138:31
 enum-known-a-2 : tie.Need-enum-known-a-2
 enum-known-a-2 c = search needs
 
--- src/reply.rt:138:37
 minus-requires-2 : tie.Need-minus-requires-2
 minus-requires-2 c κs = search needs
 
--- src/reply.rt:130:1
 returns-2 : tie.Need-returns-2
 returns-2 c = valued (λ a. bits32 (toldOffset a)) _ _ (omega arith) (c .before .before .before .before .before .if1 .left) (c .before .before .before .a .given .1) (ap value (back w32 (c .before .before .before .a .given .0 .0 .0) (c .before .struct-told .given .0 .1) (c .unsigned32 .ensures)))
 
--- src/reply.rt:130:1
 returns-3 : tie.Need-returns-3
 returns-3 c = declined (λ a. bits32 (toldOffset a)) _ _ (omega arith) (c .before .before .before .before .if1 .left) (c .before .before .a2 .given .1) refl (c .minus2 .ensures)
 

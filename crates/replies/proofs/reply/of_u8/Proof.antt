@@ -5,39 +5,28 @@ use mathlib.Core.Path.{refl}
 use borrow.Author.Needs.{needs}
 use Rattle.replies.proofs.reply.of_u8.Statement.{statement}
 use Rattle.replies.proofs.reply.of_u8.Tie as tie
-use Rattle.replies.proofs.reply.of_u8.Reads as reads
-use Rattle.replies.proofs.reply.of_u8.Lts as lts
-use Rattle.replies.proofs.reply.minus.Reads as minus-reads
 
--- src/reply.rt:72:9
 minus-requires : tie.Need-minus-requires
 minus-requires c κs = search needs
 
--- src/reply.rt:72:9
 returns : tie.Need-returns
 returns c = early toldU8 _ (c .before .before .args .a) (omega arith) (c .before .if1 .taken) (c .minus .ensures)
 
--- src/reply.rt:75:25
 enum-known-a : tie.Need-enum-known-a
 enum-known-a c = search needs
 
--- src/reply.rt:75:31
 cast-result : tie.Need-cast-result
 cast-result c = search needs
 
--- src/reply.rt:76:27
 enum-known-a-2 : tie.Need-enum-known-a-2
 enum-known-a-2 c = search needs
 
--- src/reply.rt:76:33
 minus-requires-2 : tie.Need-minus-requires-2
 minus-requires-2 c κs = search needs
 
--- src/reply.rt:68:1
 returns-2 : tie.Need-returns-2
 returns-2 c = valued toldU8 _ _ (omega arith) (c .before .before .before .if1 .left) (c .before .a .given .1) refl
 
--- src/reply.rt:68:1
 returns-3 : tie.Need-returns-3
 returns-3 c = declined toldU8 _ _ (omega arith) (c .before .before .before .before .if1 .left) (c .before .before .a2 .given .1) refl (c .minus2 .ensures)
 

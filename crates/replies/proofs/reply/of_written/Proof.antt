@@ -5,35 +5,25 @@ use mathlib.Core.Path.{refl}
 use borrow.Author.Needs.{needs}
 use Rattle.replies.proofs.reply.of_written.Statement.{statement}
 use Rattle.replies.proofs.reply.of_written.Tie as tie
-use Rattle.replies.proofs.reply.of_written.Reads as reads
-use Rattle.replies.proofs.reply.of_written.Lts as lts
-use Rattle.replies.proofs.reply.minus.Reads as minus-reads
 
--- src/reply.rt:183:28
 enum-known-a : tie.Need-enum-known-a
 enum-known-a c = search needs
 
--- src/reply.rt:185:17
 cast-result : tie.Need-cast-result
 cast-result c = search needs
 
--- src/reply.rt:190:30
 enum-known-a-2 : tie.Need-enum-known-a-2
 enum-known-a-2 c = search needs
 
--- src/reply.rt:190:36
 minus-requires : tie.Need-minus-requires
 minus-requires c κs = search needs
 
--- src/reply.rt:179:1
 returns : tie.Need-returns
 returns c = counted toldUsize (c .before .before .before .before .args .a) (c .if1 .taken) (c .before .before .a .given .1) refl
 
--- src/reply.rt:179:1
 returns-2 : tie.Need-returns-2
 returns-2 c = uncounted toldUsize (c .before .before .before .before .args .a) (c .if1 .left) (c .before .before .a .given .1) refl
 
--- src/reply.rt:179:1
 returns-3 : tie.Need-returns-3
 returns-3 c = unwritten toldUsize (c .before .before .before .before .args .a) (omega arith) (c .before .before .a2 .given .1) refl (c .minus .ensures)
 

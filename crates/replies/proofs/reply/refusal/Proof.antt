@@ -3,15 +3,10 @@ use Rattle.replies.specs.Call.{refusalOf}
 use borrow.Author.Needs.{needs}
 use Rattle.replies.proofs.reply.refusal.Statement.{statement}
 use Rattle.replies.proofs.reply.refusal.Tie as tie
-use Rattle.replies.proofs.reply.refusal.Reads as reads
-use Rattle.replies.proofs.reply.refusal.Lts as lts
-use Rattle.typelib.proofs.TypeLib.parse.Reads as parse-reads
 
--- src/reply.rt:22:9
 parse-requires : tie.Need-parse-requires
 parse-requires c κs = search needs
 
--- src/reply.rt:19:1
 returns : tie.Need-returns
 unfolding refusalOf
 returns c = ap (λ p. p .number) (c .parse .ensures)

@@ -3,22 +3,16 @@ use Rattle.typelib.specs.Told.{toldImpFile}
 use borrow.Author.Needs.{needs}
 use Rattle.rows.proofs.row.file_place.Statement.{statement}
 use Rattle.rows.proofs.row.file_place.Tie as tie
-use Rattle.rows.proofs.row.file_place.Reads as reads
-use Rattle.rows.proofs.row.file_place.Lts as lts
 
--- src/row.rt:108:30
 enum-known-file : tie.Need-enum-known-file
 enum-known-file c = search needs
 
--- src/row.rt:112:32
 enum-known-file-2 : tie.Need-enum-known-file-2
 enum-known-file-2 c = search needs
 
--- src/row.rt:104:1
 returns : tie.Need-returns
 returns c = shown toldImpFile (c .before .file .given .1)
 
--- src/row.rt:104:1
 returns-2 : tie.Need-returns-2
 returns-2 c = shown toldImpFile (c .before .file2 .given .1)
 

@@ -4,30 +4,22 @@ use mathlib.Core.Path.{sym, ap}
 use borrow.Author.Needs.{needs}
 use Rattle.rows.proofs.row.place_in.Statement.{statement}
 use Rattle.rows.proofs.row.place_in.Tie as tie
-use Rattle.rows.proofs.row.place_in.Reads as reads
-use Rattle.rows.proofs.row.place_in.Lts as lts
 
--- src/row.rt:132:26
 enum-told : tie.Need-enum-told
 enum-told c = search needs
 
--- src/row.rt:133:31
 enum-told-2 : tie.Need-enum-told-2
 enum-told-2 c = search needs
 
--- src/row.rt:134:23
 enum-known-content : tie.Need-enum-known-content
 enum-known-content c = search needs
 
--- src/row.rt:128:1
 returns : tie.Need-returns
 returns c = search needs
 
--- src/row.rt:128:1
 returns-2 : tie.Need-returns-2
 returns-2 c = search needs
 
--- src/row.rt:128:1
 returns-3 : tie.Need-returns-3
 returns-3 c = ap (λ c. placeIn (toldContent c)) (sym (c .before .content .given .1))
 

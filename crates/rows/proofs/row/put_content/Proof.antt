@@ -5,99 +5,70 @@ use mathlib.Core.Path.{ap}
 use borrow.Author.Needs.{needs}
 use Rattle.rows.proofs.row.put_content.Statement.{statement}
 use Rattle.rows.proofs.row.put_content.Tie as tie
-use Rattle.rows.proofs.row.put_content.Reads as reads
-use Rattle.rows.proofs.row.put_content.Lts as lts
-use Rattle.emit.proofs.put_le.Reads as put-le-reads
-use Rattle.rows.proofs.row.number_in.Reads as number-in-reads
-use Rattle.rows.proofs.row.place_in.Reads as place-in-reads
-use Rattle.rows.proofs.row.put_opt_place.Reads as put-opt-place-reads
-use Rattle.rows.proofs.row.put_span.Reads as put-span-reads
 
--- src/row.rt:153:25
 enum-told : tie.Need-enum-told
 enum-told c = search needs
 
--- src/row.rt:154:23
 enum-known-shape : tie.Need-enum-known-shape
 enum-known-shape c = search needs
 
--- src/row.rt:154:55
 number-in-requires : tie.Need-number-in-requires
 number-in-requires c κs = search needs
 
--- src/row.rt:154:33
 put-le-requires : tie.Need-put-le-requires
 put-le-requires c κs = search needs
 
--- src/row.rt:155:36
 enum-told-2 : tie.Need-enum-told-2
 enum-told-2 c = search needs
 
--- src/row.rt:155:45
 number-in-requires-2 : tie.Need-number-in-requires-2
 number-in-requires-2 c κs = search needs
 
--- src/row.rt:155:23
 put-le-requires-2 : tie.Need-put-le-requires-2
 put-le-requires-2 c κs = search needs
 
--- src/row.rt:156:38
 enum-told-3 : tie.Need-enum-told-3
 enum-told-3 c = search needs
 
--- src/row.rt:156:47
 place-in-requires : tie.Need-place-in-requires
 place-in-requires c κs = search needs
 
--- src/row.rt:156:29
 put-span-requires : tie.Need-put-span-requires
 put-span-requires c κs = search needs
 
--- src/row.rt:157:38
 enum-told-4 : tie.Need-enum-told-4
 enum-told-4 c = search needs
 
--- src/row.rt:157:47
 place-in-requires-2 : tie.Need-place-in-requires-2
 place-in-requires-2 c κs = search needs
 
--- src/row.rt:157:24
 put-opt-place-requires : tie.Need-put-opt-place-requires
 put-opt-place-requires c κs = search needs
 
--- src/row.rt:149:1
 returns : tie.Need-returns
 returns c = known (empty-laid _ (ap toldShape (c .enum-told .given .1))) (skip _ _)
 
--- src/row.rt:149:1
 same-length : tie.Need-same-length
 same-length c = search needs
 
--- src/row.rt:149:1
 returns-2 : tie.Need-returns-2
 returns-2 c = known (number-laid _ (ap toldShape (c .before .before .before .before .before .before .shape .given .1)) (c .before .before .before .number-in .ensures)) (c .before .before .put-le .ensures)
 
--- src/row.rt:149:1
 same-length-2 : tie.Need-same-length-2
 same-length-2 c = search needs
 
--- src/row.rt:149:1
 returns-3 : tie.Need-returns-3
 returns-3 c = known (bit-laid _ (ap toldShape (c .before .before .before .before .before .enum-told2 .given .1)) (c .before .before .before .number-in2 .ensures)) (c .before .before .put-le2 .ensures)
 
--- src/row.rt:149:1
 same-length-3 : tie.Need-same-length-3
 same-length-3 c = search needs
 
--- src/row.rt:149:1
 returns-4 : tie.Need-returns-4
 returns-4 c = known (octets-laid _ _ (ap toldShape (c .before .before .before .before .before .enum-told3 .given .1)) (c .before .before .before .place-in .ensures)) (c .before .before .put-span .ensures)
 
--- src/row.rt:149:1
 same-length-4 : tie.Need-same-length-4
 same-length-4 c = search needs
 
--- src/row.rt:149:1
 returns-5 : tie.Need-returns-5
 returns-5 c = known (text-laid _ _ (ap toldShape (c .before .before .before .before .before .enum-told4 .given .1)) (c .before .before .before .place-in2 .ensures)) (c .before .before .put-opt-place .ensures)
 

@@ -5,51 +5,34 @@ use Rattle.emit.specs.Laws.{join}
 use borrow.Author.Needs.{needs}
 use Rattle.rows.proofs.row.put_entry.Statement.{statement}
 use Rattle.rows.proofs.row.put_entry.Tie as tie
-use Rattle.rows.proofs.row.put_entry.Reads as reads
-use Rattle.rows.proofs.row.put_entry.Lts as lts
-use Rattle.emit.proofs.put_le.Reads as put-le-reads
-use Rattle.emit.proofs.put_u16.Reads as put-u16-reads
-use Rattle.emit.proofs.put_u32.Reads as put-u32-reads
-use Rattle.rows.proofs.row.put_longs.Reads as put-longs-reads
-use Rattle.util.proofs.unsigned32.Reads as unsigned32-reads
 
--- src/row.rt:178:9
 put-longs-requires : tie.Need-put-longs-requires
 put-longs-requires c κs = search needs
 
--- src/row.rt:183:35
 unsigned32-requires : tie.Need-unsigned32-requires
 unsigned32-requires c κs = search needs
 
--- src/row.rt:183:9
 put-u32-requires : tie.Need-put-u32-requires
 put-u32-requires c κs = search needs
 
--- src/row.rt:184:35
 unsigned32-requires-2 : tie.Need-unsigned32-requires-2
 unsigned32-requires-2 c κs = search needs
 
--- src/row.rt:184:9
 put-u32-requires-2 : tie.Need-put-u32-requires-2
 put-u32-requires-2 c κs = search needs
 
--- src/row.rt:185:34
 cast-put-le : tie.Need-cast-put-le
 cast-put-le c = search needs
 
--- src/row.rt:185:9
 put-le-requires : tie.Need-put-le-requires
 put-le-requires c κs = search needs
 
--- src/row.rt:186:5
 put-u16-requires : tie.Need-put-u16-requires
 put-u16-requires c κs = search needs
 
--- src/row.rt:174:1
 same-length : tie.Need-same-length
 same-length c = (join (c .before .before .before .before .before .before .before .before .before .before .before .before .before .before .before .before .before .before .before .before .before .before .before .put-longs .ensures) (join (c .before .before .before .before .before .before .before .before .before .before .before .before .before .before .before .before .before .put-u32 .ensures) (join (c .before .before .before .before .before .before .before .before .before .before .before .put-u322 .ensures) (join (c .before .before .before .before .before .before .put-le .ensures) (c .before .before .put-u16 .ensures))))) .keeps
 
--- src/row.rt:174:1
 returns : tie.Need-returns
 returns c = known (entry-laid (c .before .before .before .before .before .before .before .before .before .before .before .before .before .before .before .before .before .before .before .before .before .before .before .before .before .before .before .args .e) (back w32 (c .before .before .before .before .before .before .before .before .before .before .before .before .before .before .before .before .before .before .before .before .before .before .before .before .before .before .before .args .e .hreftype) (c .before .before .before .before .before .before .before .before .before .before .before .before .before .before .before .before .before .before .before .struct-told .given .1 .1 .0 .1) (c .before .before .before .before .before .before .before .before .before .before .before .before .before .before .before .before .before .before .unsigned32 .ensures)) (back w32 (c .before .before .before .before .before .before .before .before .before .before .before .before .before .before .before .before .before .before .before .before .before .before .before .before .before .before .before .args .e .«next_hash») (c .before .before .before .before .before .before .before .before .before .before .before .before .before .struct-told2 .given .1 .1 .1 .0 .1) (c .before .before .before .before .before .before .before .before .before .before .before .before .unsigned322 .ensures))) (join (c .before .before .before .before .before .before .before .before .before .before .before .before .before .before .before .before .before .before .before .before .before .before .before .put-longs .ensures) (join (c .before .before .before .before .before .before .before .before .before .before .before .before .before .before .before .before .before .put-u32 .ensures) (join (c .before .before .before .before .before .before .before .before .before .before .before .put-u322 .ensures) (join (c .before .before .before .before .before .before .put-le .ensures) (c .before .before .put-u16 .ensures)))))
 

@@ -2,24 +2,16 @@ use Rattle.emit.specs.Laws.{join}
 use borrow.Author.Needs.{needs}
 use Rattle.rows.proofs.row.put_name_step.Statement.{statement}
 use Rattle.rows.proofs.row.put_name_step.Tie as tie
-use Rattle.rows.proofs.row.put_name_step.Reads as reads
-use Rattle.rows.proofs.row.put_name_step.Lts as lts
-use Rattle.rows.proofs.row.put_entry.Reads as put-entry-reads
-use Rattle.rows.proofs.row.put_longs.Reads as put-longs-reads
 
--- src/row.rt:193:9
 put-entry-requires : tie.Need-put-entry-requires
 put-entry-requires c κs = search needs
 
--- src/row.rt:194:5
 put-longs-requires : tie.Need-put-longs-requires
 put-longs-requires c κs = search needs
 
--- src/row.rt:190:1
 same-length : tie.Need-same-length
 same-length c = search needs
 
--- src/row.rt:190:1
 returns : tie.Need-returns
 returns c = join (c .before .before .before .before .before .before .put-entry .ensures) (c .before .before .put-longs .ensures)
 

@@ -3,23 +3,16 @@ use Rattle.emit.specs.Laws.{known, join}
 use borrow.Author.Needs.{needs}
 use Rattle.rows.proofs.row.put_two.Statement.{statement}
 use Rattle.rows.proofs.row.put_two.Tie as tie
-use Rattle.rows.proofs.row.put_two.Reads as reads
-use Rattle.rows.proofs.row.put_two.Lts as lts
-use Rattle.emit.proofs.put_le.Reads as put-le-reads
 
--- src/row.rt:72:9
 put-le-requires : tie.Need-put-le-requires
 put-le-requires c κs = search needs
 
--- src/row.rt:73:5
 put-le-requires-2 : tie.Need-put-le-requires-2
 put-le-requires-2 c κs = search needs
 
--- src/row.rt:69:1
 same-length : tie.Need-same-length
 same-length c = search needs
 
--- src/row.rt:69:1
 returns : tie.Need-returns
 returns c = known (two-longs _ _) (join (c .before .before .before .before .before .before .put-le .ensures) (c .before .before .put-le2 .ensures))
 

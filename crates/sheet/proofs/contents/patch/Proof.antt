@@ -3,27 +3,19 @@ use native.Mathlib.Omega.{arith}
 use borrow.Author.Needs.{needs}
 use Rattle.sheet.proofs.contents.patch.Statement.{statement}
 use Rattle.sheet.proofs.contents.patch.Tie as tie
-use Rattle.sheet.proofs.contents.patch.Reads as reads
-use Rattle.sheet.proofs.contents.patch.Lts as lts
-use Rattle.emit.proofs.put_le.Reads as put-le-reads
 
--- src/contents.rt:71:9
 returns : tie.Need-returns
 returns c = unpatched _ _ (λ p q e f g. past-never _ (c .if1 .taken) f)
 
--- src/contents.rt:74:9
 put-le-requires : tie.Need-put-le-requires
 put-le-requires c κs = search needs
 
--- src/contents.rt:67:1
 same-length : tie.Need-same-length
 same-length c = search needs
 
--- src/contents.rt:67:1
 returns-2 : tie.Need-returns-2
 returns-2 c = patched _ _ _ (c .before .before .put-le .ensures)
 
--- src/contents.rt:67:1
 returns-3 : tie.Need-returns-3
 returns-3 c = unpatched _ _ (λ p q e f g. omega (arith, place-is (c .before .before .before .args .from) e, place-is (c .before .before .before .args .end) f, g, c .if2 .left))
 

@@ -21,12 +21,6 @@ use Rattle.emit.specs.Laws.{Left, left-all, left-less, left-none, refused-stays
 use Rattle.sheet_members.specs.Lists.{layAll, laid-more, laid-none, counted-more, counted-none}
 use Rattle.sheet_members.proofs.functions.put_each.Statement.{statement}
 use Rattle.sheet_members.proofs.functions.put_each.Tie as tie
-use Rattle.sheet_members.proofs.functions.put_each.Reads as reads
-use Rattle.sheet_members.proofs.functions.put_each.Lts as lts
-use Rattle.sheet_members.proofs.functions.put_function.Reads as put-function-reads
-use Rattle.sheet_members.proofs.words.func_rows.Reads as func-rows-reads
-use Rattle.sheet_members.proofs.words.word.Reads as word-reads
-use Rattle.cursors.proofs.iterators.FuncCursor.step.Reads as step-reads
 
 abbrev Inv-loop : tie.InvT-loop
 Inv-loop s lib ti out₀ to rows t₀ c₀ i₀ out t c i = Left (layAll (function edition-one (lib .count)) (numbered (functionOf s lib ti) 0 (yields (funcStep s) (c₀ .remaining) c₀))) (put t₀) out₀ (layAll (function edition-one (lib .count)) (numbered (functionOf s lib ti) i (yields (funcStep s) (c .remaining) c))) (put t) out × (i + c .remaining ≡ c₀ .remaining) × (c₀ .remaining < 2 ^ 64) × (i + length (yields (funcStep s) (c .remaining) c) ≡ length (yields (funcStep s) (c₀ .remaining) c₀))
@@ -34,63 +28,48 @@ Inv-loop s lib ti out₀ to rows t₀ c₀ i₀ out t c i = Left (layAll (functi
 abbrev μ-loop : tie.MeasureT-loop
 μ-loop s lib ti out₀ to rows t₀ c₀ i₀ out t c i = c .remaining
 
--- src/functions.rt:58:9
 func-rows-requires : tie.Need-func-rows-requires Inv-loop μ-loop
 func-rows-requires c κs = search needs
 
--- src/functions.rt:62:5
 loop-holds : tie.Need-loop-holds Inv-loop μ-loop
 loop-holds c = (left-all, omega arith, omega arith, omega arith)
 
--- src/functions.rt:64:13
 same-length : tie.Need-same-length Inv-loop μ-loop
 same-length c = (c .before .loop .inv .0 .finish _ _ (refused-stays (c .if1 .taken))) .keeps
 
--- src/functions.rt:64:13
 returns : tie.Need-returns Inv-loop μ-loop
 returns c = (c .before .loop .inv .0 .finish _ _ (refused-stays (c .if1 .taken)), λ h. absurd (omega (arith, h, c .if1 .taken)))
 
--- src/functions.rt:66:44
 step-requires : tie.Need-step-requires Inv-loop μ-loop
 step-requires c κs = search needs
 
--- src/functions.rt:66:30
 enum-known-func : tie.Need-enum-known-func Inv-loop μ-loop
 enum-known-func c = search needs
 
--- src/functions.rt:67:13
 enum-told : tie.Need-enum-told Inv-loop μ-loop
 enum-told c = search needs
 
--- src/functions.rt:67:13
 same-length-2 : tie.Need-same-length-2 Inv-loop μ-loop
 same-length-2 c = left-none (c .before .before .before .before .loop .inv .0) (laid-none (funcStep (c .before .before .before .before .before .before .before .before .args .s .now)) (λ (x : FuncCursor). x .remaining) _ _ _ (tells toldFuncStep (c .enum-told .given .1) (c .before .before .step .ensures))) .keeps
 
--- src/functions.rt:67:13
 returns-2 : tie.Need-returns-2 Inv-loop μ-loop
 returns-2 c = (left-none (c .before .before .before .before .loop .inv .0) (laid-none (funcStep (c .before .before .before .before .before .before .before .before .args .s .now)) (λ (x : FuncCursor). x .remaining) _ _ _ (tells toldFuncStep (c .enum-told .given .1) (c .before .before .step .ensures))), λ h. counted-none (funcStep (c .before .before .before .before .before .before .before .before .args .s .now)) (λ (x : FuncCursor). x .remaining) _ _ (tells toldFuncStep (c .enum-told .given .1) (c .before .before .step .ensures)) (c .before .before .before .before .loop .inv .3))
 
--- src/functions.rt:69:13
 word-requires : tie.Need-word-requires Inv-loop μ-loop
 word-requires c κs = c .before .before .before .before .before .before .func-rows .ensures .memids-inside
 
--- src/functions.rt:70:13
 word-requires-2 : tie.Need-word-requires-2 Inv-loop μ-loop
 word-requires-2 c κs = c .before .before .before .before .before .before .before .func-rows .ensures .names-inside
 
--- src/functions.rt:71:9
 put-function-requires : tie.Need-put-function-requires Inv-loop μ-loop
 put-function-requires c κs = let s = c .before .before .before .before .before .before .before .before .before .before .before .before .args .s .now in let ti = c .before .before .before .before .before .before .before .before .before .before .before .before .args .ti in let i = c .before .before .before .before .before .before .before .before .loop .i in let r = c .before .before .before .before .before .before .before .before .before .func-rows .result in (ap found (c .before .before .word .ensures) ∙ found-signed (orNine (read 4 s (r .memids + 4 * i))) (funcMemid s ti i) (c .before .before .before .before .before .before .before .before .before .func-rows .ensures .memids-are i), ap found (c .before .word2 .ensures) ∙ found-signed (orNine (read 4 s (r .names + 4 * i))) (funcNameOffset s ti i) (c .before .before .before .before .before .before .before .before .before .func-rows .ensures .names-are i))
 
--- src/functions.rt:73:9
 add-i : tie.Need-add-i Inv-loop μ-loop
 add-i c = let e = tells toldFuncStep (c .before .before .before .before .before .before .before .func .given .1) (c .before .before .before .before .before .before .before .before .before .step .ensures) in let l = func-yielded _ _ _ _ e .lessens in omega (arith, c .before .before .before .before .before .before .before .before .before .before .before .loop .inv .1, c .before .before .before .before .before .before .before .before .before .before .before .loop .inv .2, l .some)
 
--- src/functions.rt:62:5
 loop-less : tie.Need-loop-less Inv-loop μ-loop
 loop-less c = let e = tells toldFuncStep (c .before .before .before .before .before .before .before .func .given .1) (c .before .before .before .before .before .before .before .before .before .step .ensures) in let l = func-yielded _ _ _ _ e .lessens in omega (arith, l .some, l .fewer)
 
--- src/functions.rt:62:5
 loop-again : tie.Need-loop-again Inv-loop μ-loop
 loop-again c = let e = tells toldFuncStep (c .before .before .before .before .before .before .before .func .given .1) (c .before .before .before .before .before .before .before .before .before .step .ensures) in let l = func-yielded _ _ _ _ e .lessens in (left-less (c .before .before .before .before .before .before .before .before .before .before .before .loop .inv .0) (c .before .before .put-function .ensures) (laid-more (funcStep (c .before .before .before .before .before .before .before .before .before .before .before .before .before .before .before .args .s .now)) (λ (x : FuncCursor). x .remaining) _ _ _ l e), omega (arith, c .before .before .before .before .before .before .before .before .before .before .before .loop .inv .1, l .some, l .fewer), c .before .before .before .before .before .before .before .before .before .before .before .loop .inv .2, counted-more (funcStep (c .before .before .before .before .before .before .before .before .before .before .before .before .before .before .before .args .s .now)) (λ (x : FuncCursor). x .remaining) _ _ l e (c .before .before .before .before .before .before .before .before .before .before .before .loop .inv .3))
 

@@ -3,44 +3,28 @@ use Rattle.emit.specs.Laws.{known, join}
 use borrow.Author.Needs.{needs}
 use Rattle.sheet_members.proofs.functions.put_function.Statement.{statement}
 use Rattle.sheet_members.proofs.functions.put_function.Tie as tie
-use Rattle.sheet_members.proofs.functions.put_function.Reads as reads
-use Rattle.sheet_members.proofs.functions.put_function.Lts as lts
-use Rattle.emit.proofs.word_at.Reads as word-at-reads
-use Rattle.sheet_members.proofs.functions.put_words.Reads as put-words-reads
-use Rattle.sheet_members.proofs.parameters.put_parameters.Reads as put-parameters-reads
-use Rattle.sheet_trees.proofs.trees.put_tree.Reads as put-tree-reads
-use Rattle.sheet_trees.proofs.values.put_name_by.Reads as put-name-by-reads
-use Rattle.sheet_trees.proofs.values.put_opt_memid.Reads as put-opt-memid-reads
 
--- src/functions.rt:94:9
 put-opt-memid-requires : tie.Need-put-opt-memid-requires
 put-opt-memid-requires c κs = search needs
 
--- src/functions.rt:95:9
 put-name-by-requires : tie.Need-put-name-by-requires
 put-name-by-requires c κs = search needs
 
--- src/functions.rt:96:9
 word-at-requires : tie.Need-word-at-requires
 word-at-requires c κs = search needs
 
--- src/functions.rt:97:9
 put-tree-requires : tie.Need-put-tree-requires
 put-tree-requires c κs = search needs
 
--- src/functions.rt:98:9
 put-words-requires : tie.Need-put-words-requires
 put-words-requires c κs = search needs
 
--- src/functions.rt:99:5
 put-parameters-requires : tie.Need-put-parameters-requires
 put-parameters-requires c κs = search needs
 
--- src/functions.rt:79:1
 same-length : tie.Need-same-length
 same-length c = search needs
 
--- src/functions.rt:79:1
 returns : tie.Need-returns
 returns c = known (function-is _ _ _ _ _ _ _ (c .before .before .before .before .before .before .before .before .before .before .before .before .before .before .before .before .before .before .before .before .before .before .before .pre .0) (c .before .before .before .before .before .before .before .before .before .before .before .before .before .before .before .before .before .before .before .before .before .before .before .pre .1) (c .before .before .before .before .before .before .before .before .before .before .before .before .word-at .ensures)) (join (c .before .before .before .before .before .before .before .before .before .before .before .before .before .before .before .before .before .before .before .put-opt-memid .ensures) (join (c .before .before .before .before .before .before .before .before .before .before .before .before .before .before .before .put-name-by .ensures) (join (c .before .before .before .before .before .before .before .before .before .before .put-tree .ensures) (join (c .before .before .before .before .before .before .put-words .ensures) (c .before .before .put-parameters .ensures)))))
 

@@ -4,45 +4,31 @@ use Rattle.emit.specs.Laws.{known}
 use borrow.Author.Needs.{needs}
 use Rattle.sheet_members.proofs.parameters.put_constant_by.Statement.{statement}
 use Rattle.sheet_members.proofs.parameters.put_constant_by.Tie as tie
-use Rattle.sheet_members.proofs.parameters.put_constant_by.Reads as reads
-use Rattle.sheet_members.proofs.parameters.put_constant_by.Lts as lts
-use Rattle.emit.proofs.put_u8.Reads as put-u8-reads
-use Rattle.sheet_constants.proofs.put_opt_constant.Reads as put-opt-constant-reads
-use Rattle.util.proofs.unsigned32.Reads as unsigned32-reads
 
--- src/parameters.rt:119:26
 enum-known-offset : tie.Need-enum-known-offset
 enum-known-offset c = search needs
 
--- src/parameters.rt:120:29
 enum-told : tie.Need-enum-told
 enum-told c = search needs
 
--- src/parameters.rt:120:9
 put-u8-requires : tie.Need-put-u8-requires
 put-u8-requires c κs = search needs
 
--- src/parameters.rt:120:9
 same-length : tie.Need-same-length
 same-length c = search needs
 
--- src/parameters.rt:120:9
 returns : tie.Need-returns
 returns c = known (constant-missing _ _ (c .before .before .before .before .enum-told .given .1)) (c .before .before .put-u8 .ensures)
 
--- src/parameters.rt:122:47
 unsigned32-requires : tie.Need-unsigned32-requires
 unsigned32-requires c κs = search needs
 
--- src/parameters.rt:122:5
 put-opt-constant-requires : tie.Need-put-opt-constant-requires
 put-opt-constant-requires c κs = search needs
 
--- src/parameters.rt:116:1
 same-length-2 : tie.Need-same-length-2
 same-length-2 c = search needs
 
--- src/parameters.rt:116:1
 returns-2 : tie.Need-returns-2
 returns-2 c = known (constant-by _ _ (c .before .before .before .before .before .before .offset .given .1) (pattern (c .before .before .before .before .before .before .offset .given .0 .0) _ (record { sfits = c .before .before .before .before .before .known-told .given .0 .1 }) (c .before .before .before .before .unsigned32 .ensures))) (c .before .before .put-opt-constant .ensures)
 

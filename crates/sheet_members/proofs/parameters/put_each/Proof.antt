@@ -16,10 +16,6 @@ use Rattle.emit.specs.Laws.{Left, left-all, left-less, left-none, refused-stays
 use Rattle.sheet_members.specs.Lists.{layAll, laid-more, laid-none, counted-more, counted-none}
 use Rattle.sheet_members.proofs.parameters.put_each.Statement.{statement}
 use Rattle.sheet_members.proofs.parameters.put_each.Tie as tie
-use Rattle.sheet_members.proofs.parameters.put_each.Reads as reads
-use Rattle.sheet_members.proofs.parameters.put_each.Lts as lts
-use Rattle.sheet_members.proofs.parameters.put_parameter.Reads as put-parameter-reads
-use Rattle.cursors.proofs.iterators.ParamCursor.step.Reads as step-reads
 
 abbrev Inv-loop : tie.InvT-loop
 Inv-loop s lib func out₀ to t₀ c₀ i₀ out t c i = Left (layAll (parameter edition-one (lib .count)) (numbered (parameterOf s lib func) 0 (yields (paramStep s) (c₀ .remaining) c₀))) (put t₀) out₀ (layAll (parameter edition-one (lib .count)) (numbered (parameterOf s lib func) i (yields (paramStep s) (c .remaining) c))) (put t) out × (i + c .remaining ≡ c₀ .remaining) × (c₀ .remaining < 2 ^ 64) × (i + length (yields (paramStep s) (c .remaining) c) ≡ length (yields (paramStep s) (c₀ .remaining) c₀))
@@ -27,51 +23,39 @@ Inv-loop s lib func out₀ to t₀ c₀ i₀ out t c i = Left (layAll (parameter
 abbrev μ-loop : tie.MeasureT-loop
 μ-loop s lib func out₀ to t₀ c₀ i₀ out t c i = c .remaining
 
--- src/parameters.rt:58:5
 loop-holds : tie.Need-loop-holds Inv-loop μ-loop
 loop-holds c = (left-all, omega arith, omega arith, omega arith)
 
--- src/parameters.rt:60:13
 same-length : tie.Need-same-length Inv-loop μ-loop
 same-length c = (c .before .loop .inv .0 .finish _ _ (refused-stays (c .if1 .taken))) .keeps
 
--- src/parameters.rt:60:13
 returns : tie.Need-returns Inv-loop μ-loop
 returns c = (c .before .loop .inv .0 .finish _ _ (refused-stays (c .if1 .taken)), λ h. absurd (omega (arith, h, c .if1 .taken)))
 
--- src/parameters.rt:62:46
 step-requires : tie.Need-step-requires Inv-loop μ-loop
 step-requires c κs = search needs
 
--- src/parameters.rt:62:31
 enum-known-param : tie.Need-enum-known-param Inv-loop μ-loop
 enum-known-param c = search needs
 
--- src/parameters.rt:63:13
 enum-told : tie.Need-enum-told Inv-loop μ-loop
 enum-told c = search needs
 
--- src/parameters.rt:63:13
 same-length-2 : tie.Need-same-length-2 Inv-loop μ-loop
 same-length-2 c = left-none (c .before .before .before .before .loop .inv .0) (laid-none (paramStep (c .before .before .before .before .before .before .before .args .s .now)) (λ (x : ParamCursor). x .remaining) _ _ _ (tells toldParamStep (c .enum-told .given .1) (c .before .before .step .ensures))) .keeps
 
--- src/parameters.rt:63:13
 returns-2 : tie.Need-returns-2 Inv-loop μ-loop
 returns-2 c = (left-none (c .before .before .before .before .loop .inv .0) (laid-none (paramStep (c .before .before .before .before .before .before .before .args .s .now)) (λ (x : ParamCursor). x .remaining) _ _ _ (tells toldParamStep (c .enum-told .given .1) (c .before .before .step .ensures))), λ h. counted-none (paramStep (c .before .before .before .before .before .before .before .args .s .now)) (λ (x : ParamCursor). x .remaining) _ _ (tells toldParamStep (c .enum-told .given .1) (c .before .before .step .ensures)) (c .before .before .before .before .loop .inv .3))
 
--- src/parameters.rt:65:9
 put-parameter-requires : tie.Need-put-parameter-requires Inv-loop μ-loop
 put-parameter-requires c κs = search needs
 
--- src/parameters.rt:67:9
 add-i : tie.Need-add-i Inv-loop μ-loop
 add-i c = let e = tells toldParamStep (c .before .before .before .before .before .param .given .1) (c .before .before .before .before .before .before .before .step .ensures) in let l = param-yielded _ _ _ _ e .lessens in omega (arith, c .before .before .before .before .before .before .before .before .before .loop .inv .1, c .before .before .before .before .before .before .before .before .before .loop .inv .2, l .some)
 
--- src/parameters.rt:58:5
 loop-less : tie.Need-loop-less Inv-loop μ-loop
 loop-less c = let e = tells toldParamStep (c .before .before .before .before .before .param .given .1) (c .before .before .before .before .before .before .before .step .ensures) in let l = param-yielded _ _ _ _ e .lessens in omega (arith, l .some, l .fewer)
 
--- src/parameters.rt:58:5
 loop-again : tie.Need-loop-again Inv-loop μ-loop
 loop-again c = let e = tells toldParamStep (c .before .before .before .before .before .param .given .1) (c .before .before .before .before .before .before .before .step .ensures) in let l = param-yielded _ _ _ _ e .lessens in (left-less (c .before .before .before .before .before .before .before .before .before .loop .inv .0) (c .before .before .put-parameter .ensures) (laid-more (paramStep (c .before .before .before .before .before .before .before .before .before .before .before .before .args .s .now)) (λ (x : ParamCursor). x .remaining) _ _ _ l e), omega (arith, c .before .before .before .before .before .before .before .before .before .loop .inv .1, l .some, l .fewer), c .before .before .before .before .before .before .before .before .before .loop .inv .2, counted-more (paramStep (c .before .before .before .before .before .before .before .before .before .before .before .before .args .s .now)) (λ (x : ParamCursor). x .remaining) _ _ l e (c .before .before .before .before .before .before .before .before .before .loop .inv .3))
 

@@ -4,69 +4,46 @@ use native.Mathlib.Omega.{arith}
 use borrow.Author.Needs.{needs}
 use Rattle.sheet_members.proofs.parameters.put_parameter.Statement.{statement}
 use Rattle.sheet_members.proofs.parameters.put_parameter.Tie as tie
-use Rattle.sheet_members.proofs.parameters.put_parameter.Reads as reads
-use Rattle.sheet_members.proofs.parameters.put_parameter.Lts as lts
-use Rattle.emit.proofs.put_le.Reads as put-le-reads
-use Rattle.emit.proofs.put_u32.Reads as put-u32-reads
-use Rattle.emit.proofs.word_at.Reads as word-at-reads
-use Rattle.records.proofs.func.FuncRecord.default_value_offset.Reads as default-value-offset-reads
-use Rattle.sheet_members.proofs.parameters.put_constant_by.Reads as put-constant-by-reads
-use Rattle.sheet_trees.proofs.trees.put_tree.Reads as put-tree-reads
-use Rattle.sheet_trees.proofs.values.put_opt_name.Reads as put-opt-name-reads
 
--- src/parameters.rt:82:9
 word-at-requires : tie.Need-word-at-requires
 word-at-requires c κs = search needs
 
--- src/parameters.rt:83:9
 word-at-requires-2 : tie.Need-word-at-requires-2
 word-at-requires-2 c κs = search needs
 
--- src/parameters.rt:84:9
 put-tree-requires : tie.Need-put-tree-requires
 put-tree-requires c κs = search needs
 
--- src/parameters.rt:85:42
 word-at-requires-3 : tie.Need-word-at-requires-3
 word-at-requires-3 c κs = search needs
 
--- src/parameters.rt:85:9
 put-opt-name-requires : tie.Need-put-opt-name-requires
 put-opt-name-requires c κs = search needs
 
--- src/parameters.rt:87:13
 put-u32-requires : tie.Need-put-u32-requires
 put-u32-requires c κs = search needs
 
--- src/parameters.rt:88:33
 default-value-offset-requires : tie.Need-default-value-offset-requires
 default-value-offset-requires c κs = search needs
 
--- src/parameters.rt:88:9
 put-constant-by-requires : tie.Need-put-constant-by-requires
 put-constant-by-requires c κs = search needs
 
--- src/parameters.rt:91:30
 cast-put-le : tie.Need-cast-put-le
 cast-put-le c = search needs
 
--- src/parameters.rt:91:9
 put-le-requires : tie.Need-put-le-requires
 put-le-requires c κs = search needs
 
--- src/parameters.rt:71:1
 same-length : tie.Need-same-length
 same-length c = search needs
 
--- src/parameters.rt:71:1
 returns : tie.Need-returns
 returns c = known (parameter-is _ _ _ _ _ (c .before .before .before .before .before .before .before .before .before .before .before .before .before .before .before .before .before .before .before .word-at2 .ensures) (c .before .before .before .before .before .before .before .before .before .before .before .before .before .before .word-at3 .ensures) (c .before .before .before .before .before .before .before .before .before .before .before .before .before .before .before .before .before .before .before .before .word-at .ensures)) (join (c .before .before .before .before .before .before .before .before .before .before .before .before .before .before .before .before .before .put-tree .ensures) (join (c .before .before .before .before .before .before .before .before .before .before .before .before .put-opt-name .ensures) (known (default-set _ _ _ (c .before .before .before .before .default-value-offset .ensures) (c .before .before .before .before .before .before .before .before .before .if1 .taken)) (join (c .before .before .before .before .before .before .before .put-u32 .ensures) (c .before .before .put-constant-by .ensures)))))
 
--- src/parameters.rt:71:1
 same-length-2 : tie.Need-same-length-2
 same-length-2 c = search needs
 
--- src/parameters.rt:71:1
 returns-2 : tie.Need-returns-2
 returns-2 c = known (parameter-is _ _ _ _ _ (c .before .before .before .before .before .before .before .before .before .before .before .before .before .before .word-at2 .ensures) (c .before .before .before .before .before .before .before .before .before .word-at3 .ensures) (c .before .before .before .before .before .before .before .before .before .before .before .before .before .before .before .word-at .ensures)) (join (c .before .before .before .before .before .before .before .before .before .before .before .before .put-tree .ensures) (join (c .before .before .before .before .before .before .before .put-opt-name .ensures) (known (default-unset _ _ _ _ (omega arith) (c .before .before .before .before .if1 .left)) (c .before .before .put-le .ensures))))
 

@@ -16,10 +16,6 @@ use Rattle.emit.specs.Laws.{Left, left-all, left-less, left-none, refused-stays
 use Rattle.sheet_members.specs.Lists.{layAll, laid-more, laid-none, counted-more, counted-none}
 use Rattle.sheet_members.proofs.variables.put_each.Statement.{statement}
 use Rattle.sheet_members.proofs.variables.put_each.Tie as tie
-use Rattle.sheet_members.proofs.variables.put_each.Reads as reads
-use Rattle.sheet_members.proofs.variables.put_each.Lts as lts
-use Rattle.sheet_members.proofs.variables.put_variable.Reads as put-variable-reads
-use Rattle.cursors.proofs.iterators.VarCursor.step.Reads as step-reads
 
 abbrev Inv-loop : tie.InvT-loop
 Inv-loop s lib ti out₀ to t₀ c₀ i₀ out t c i = Left (layAll (variable edition-one (lib .count)) (numbered (variableOf s lib ti) 0 (yields (varStep s) (c₀ .remaining) c₀))) (put t₀) out₀ (layAll (variable edition-one (lib .count)) (numbered (variableOf s lib ti) i (yields (varStep s) (c .remaining) c))) (put t) out × (i + c .remaining ≡ c₀ .remaining) × (c₀ .remaining < 2 ^ 64) × (i + length (yields (varStep s) (c .remaining) c) ≡ length (yields (varStep s) (c₀ .remaining) c₀))
@@ -27,51 +23,39 @@ Inv-loop s lib ti out₀ to t₀ c₀ i₀ out t c i = Left (layAll (variable ed
 abbrev μ-loop : tie.MeasureT-loop
 μ-loop s lib ti out₀ to t₀ c₀ i₀ out t c i = c .remaining
 
--- src/variables.rt:56:5
 loop-holds : tie.Need-loop-holds Inv-loop μ-loop
 loop-holds c = (left-all, omega arith, omega arith, omega arith)
 
--- src/variables.rt:58:13
 same-length : tie.Need-same-length Inv-loop μ-loop
 same-length c = (c .before .loop .inv .0 .finish _ _ (refused-stays (c .if1 .taken))) .keeps
 
--- src/variables.rt:58:13
 returns : tie.Need-returns Inv-loop μ-loop
 returns c = (c .before .loop .inv .0 .finish _ _ (refused-stays (c .if1 .taken)), λ h. absurd (omega (arith, h, c .if1 .taken)))
 
--- src/variables.rt:60:42
 step-requires : tie.Need-step-requires Inv-loop μ-loop
 step-requires c κs = search needs
 
--- src/variables.rt:60:29
 enum-known-var : tie.Need-enum-known-var Inv-loop μ-loop
 enum-known-var c = search needs
 
--- src/variables.rt:61:13
 enum-told : tie.Need-enum-told Inv-loop μ-loop
 enum-told c = search needs
 
--- src/variables.rt:61:13
 same-length-2 : tie.Need-same-length-2 Inv-loop μ-loop
 same-length-2 c = left-none (c .before .before .before .before .loop .inv .0) (laid-none (varStep (c .before .before .before .before .before .before .before .args .s .now)) (λ (x : VarCursor). x .remaining) _ _ _ (tells toldVarStep (c .enum-told .given .1) (c .before .before .step .ensures))) .keeps
 
--- src/variables.rt:61:13
 returns-2 : tie.Need-returns-2 Inv-loop μ-loop
 returns-2 c = (left-none (c .before .before .before .before .loop .inv .0) (laid-none (varStep (c .before .before .before .before .before .before .before .args .s .now)) (λ (x : VarCursor). x .remaining) _ _ _ (tells toldVarStep (c .enum-told .given .1) (c .before .before .step .ensures))), λ h. counted-none (varStep (c .before .before .before .before .before .before .before .args .s .now)) (λ (x : VarCursor). x .remaining) _ _ (tells toldVarStep (c .enum-told .given .1) (c .before .before .step .ensures)) (c .before .before .before .before .loop .inv .3))
 
--- src/variables.rt:63:9
 put-variable-requires : tie.Need-put-variable-requires Inv-loop μ-loop
 put-variable-requires c κs = search needs
 
--- src/variables.rt:65:9
 add-i : tie.Need-add-i Inv-loop μ-loop
 add-i c = let e = tells toldVarStep (c .before .before .before .before .before .var .given .1) (c .before .before .before .before .before .before .before .step .ensures) in let l = var-yielded _ _ _ _ e .lessens in omega (arith, c .before .before .before .before .before .before .before .before .before .loop .inv .1, c .before .before .before .before .before .before .before .before .before .loop .inv .2, l .some)
 
--- src/variables.rt:56:5
 loop-less : tie.Need-loop-less Inv-loop μ-loop
 loop-less c = let e = tells toldVarStep (c .before .before .before .before .before .var .given .1) (c .before .before .before .before .before .before .before .step .ensures) in let l = var-yielded _ _ _ _ e .lessens in omega (arith, l .some, l .fewer)
 
--- src/variables.rt:56:5
 loop-again : tie.Need-loop-again Inv-loop μ-loop
 loop-again c = let e = tells toldVarStep (c .before .before .before .before .before .var .given .1) (c .before .before .before .before .before .before .before .step .ensures) in let l = var-yielded _ _ _ _ e .lessens in (left-less (c .before .before .before .before .before .before .before .before .before .loop .inv .0) (c .before .before .put-variable .ensures) (laid-more (varStep (c .before .before .before .before .before .before .before .before .before .before .before .before .args .s .now)) (λ (x : VarCursor). x .remaining) _ _ _ l e), omega (arith, c .before .before .before .before .before .before .before .before .before .loop .inv .1, l .some, l .fewer), c .before .before .before .before .before .before .before .before .before .loop .inv .2, counted-more (varStep (c .before .before .before .before .before .before .before .before .before .before .before .before .args .s .now)) (λ (x : VarCursor). x .remaining) _ _ l e (c .before .before .before .before .before .before .before .before .before .loop .inv .3))
 

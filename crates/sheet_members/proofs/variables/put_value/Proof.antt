@@ -3,32 +3,22 @@ use Rattle.emit.specs.Laws.{known}
 use borrow.Author.Needs.{needs}
 use Rattle.sheet_members.proofs.variables.put_value.Statement.{statement}
 use Rattle.sheet_members.proofs.variables.put_value.Tie as tie
-use Rattle.sheet_members.proofs.variables.put_value.Reads as reads
-use Rattle.sheet_members.proofs.variables.put_value.Lts as lts
-use Rattle.emit.proofs.put_u32.Reads as put-u32-reads
-use Rattle.sheet_constants.proofs.put_opt_constant.Reads as put-opt-constant-reads
 
--- src/variables.rt:105:9
 put-opt-constant-requires : tie.Need-put-opt-constant-requires
 put-opt-constant-requires c κs = search needs
 
--- src/variables.rt:107:9
 put-u32-requires : tie.Need-put-u32-requires
 put-u32-requires c κs = search needs
 
--- src/variables.rt:101:1
 same-length : tie.Need-same-length
 same-length c = search needs
 
--- src/variables.rt:101:1
 returns : tie.Need-returns
 returns c = known (value-constant _ _ _ _ (c .before .before .before .before .if1 .taken)) (c .before .before .put-opt-constant .ensures)
 
--- src/variables.rt:101:1
 same-length-2 : tie.Need-same-length-2
 same-length-2 c = search needs
 
--- src/variables.rt:101:1
 returns-2 : tie.Need-returns-2
 returns-2 c = known (value-word _ _ _ _ (c .before .before .before .before .if1 .left)) (c .before .before .put-u32 .ensures)
 

@@ -4,27 +4,19 @@ use Rattle.sheet_members.proofs.WordLaws.{row-missing}
 use borrow.Author.Needs.{needs}
 use Rattle.sheet_members.proofs.words.row.Statement.{statement}
 use Rattle.sheet_members.proofs.words.row.Tie as tie
-use Rattle.sheet_members.proofs.words.row.Reads as reads
-use Rattle.sheet_members.proofs.words.row.Lts as lts
-use Rattle.sheet_members.proofs.words.row_from.Reads as row-from-reads
 
--- src/words.rt:71:28
 enum-known-start : tie.Need-enum-known-start
 enum-known-start c = search needs
 
--- src/words.rt:71:35
 row-from-requires : tie.Need-row-from-requires
 row-from-requires c κs = search needs
 
--- src/words.rt:72:36
 enum-told : tie.Need-enum-told
 enum-told c = search needs
 
--- src/words.rt:67:1
 returns : tie.Need-returns
 returns c = rw (c .before .before .start .given .1) (c .row-from .ensures)
 
--- src/words.rt:67:1
 returns-2 : tie.Need-returns-2
 returns-2 c = row-missing _ (ap toldUsize (c .enum-told .given .1))
 

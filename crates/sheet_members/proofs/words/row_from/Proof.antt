@@ -3,26 +3,19 @@ use native.Mathlib.Omega.{arith}
 use borrow.Author.Needs.{needs}
 use Rattle.sheet_members.proofs.words.row_from.Statement.{statement}
 use Rattle.sheet_members.proofs.words.row_from.Tie as tie
-use Rattle.sheet_members.proofs.words.row_from.Reads as reads
-use Rattle.sheet_members.proofs.words.row_from.Lts as lts
 
--- src/words.rt:81:9
 returns : tie.Need-returns
 returns c = row-beyond _ _ _ (omega arith)
 
--- src/words.rt:84:9
 returns-2 : tie.Need-returns-2
 returns-2 c = row-beyond _ _ _ (omega arith)
 
--- src/words.rt:86:10
 mul-result : tie.Need-mul-result
 mul-result c = search needs
 
--- src/words.rt:86:5
 add-result : tie.Need-add-result
 add-result c = search needs
 
--- src/words.rt:76:1
 returns-3 : tie.Need-returns-3
 returns-3 c = row-there _ _ _ (omega arith)
 

@@ -10,36 +10,25 @@ use Rattle.sheet_members.proofs.WordLaws.{word-there, word-beyond}
 use borrow.Author.Needs.{needs}
 use Rattle.sheet_members.proofs.words.word.Statement.{statement}
 use Rattle.sheet_members.proofs.words.word.Tie as tie
-use Rattle.sheet_members.proofs.words.word.Reads as reads
-use Rattle.sheet_members.proofs.words.word.Lts as lts
-use Rattle.util.proofs.signed32.Reads as signed32-reads
-use Rattle.util.proofs.u32_or_zero.Reads as u32-or-zero-reads
 
--- src/words.rt:94:9
 sub-if1 : tie.Need-sub-if1
 sub-if1 c = search needs
 
--- src/words.rt:95:9
 returns : tie.Need-returns
 returns c = ap signed32 (word-beyond _ _ (omega arith))
 
--- src/words.rt:97:63
 mul-u32-or-zero : tie.Need-mul-u32-or-zero
 mul-u32-or-zero c = search needs
 
--- src/words.rt:97:58
 add-u32-or-zero : tie.Need-add-u32-or-zero
 add-u32-or-zero c = search needs
 
--- src/words.rt:97:37
 u32-or-zero-requires : tie.Need-u32-or-zero-requires
 u32-or-zero-requires c κs = search needs
 
--- src/words.rt:97:22
 signed32-requires : tie.Need-signed32-requires
 signed32-requires c κs = search needs
 
--- src/words.rt:90:1
 returns-2 : tie.Need-returns-2
 returns-2 c = map-value (toZ w32) _ _ _ (ap value (c .before .u32-or-zero .ensures) ∙ word-there _ _ (omega arith)) (toZ-ofZ w32 _ (record { sfits = c .signed32 .ok }) ∙ c .signed32 .ensures)
 

@@ -4,33 +4,23 @@ use Rattle.records.specs.Told.{toldU32}
 use borrow.Author.Needs.{needs}
 use Rattle.sheet_members.proofs.words.words_at.Statement.{statement}
 use Rattle.sheet_members.proofs.words.words_at.Tie as tie
-use Rattle.sheet_members.proofs.words.words_at.Reads as reads
-use Rattle.sheet_members.proofs.words.words_at.Lts as lts
-use Rattle.records.proofs.field.field_u32.Reads as field-u32-reads
-use Rattle.sheet_members.proofs.words.words_behind.Reads as words-behind-reads
 
--- src/words.rt:47:11
 field-u32-requires : tie.Need-field-u32-requires
 field-u32-requires c κs = search needs
 
--- src/words.rt:48:26
 enum-known-memoffset : tie.Need-enum-known-memoffset
 enum-known-memoffset c = search needs
 
--- src/words.rt:48:40
 words-behind-requires : tie.Need-words-behind-requires
 words-behind-requires c κs = search needs
 
--- src/words.rt:49:28
 enum-known-n : tie.Need-enum-known-n
 enum-known-n c = search needs
 
--- src/words.rt:44:1
 returns : tie.Need-returns
 unfolding wordsAt
 returns c = bind-value _ _ _ _ (tells toldU32 (c .before .before .memoffset .given .1) (c .before .before .before .before .field-u32 .ensures)) (c .words-behind .ensures)
 
--- src/words.rt:44:1
 returns-2 : tie.Need-returns-2
 unfolding wordsAt
 returns-2 c = bind-refused _ _ _ (tells toldU32 (c .before .n .given .1) (c .before .before .before .field-u32 .ensures))

@@ -4,43 +4,31 @@ use Rattle.sheet_members.proofs.WordLaws.{block-negative, block-read, b
 use borrow.Author.Needs.{needs}
 use Rattle.sheet_members.proofs.words.words_behind.Statement.{statement}
 use Rattle.sheet_members.proofs.words.words_behind.Tie as tie
-use Rattle.sheet_members.proofs.words.words_behind.Reads as reads
-use Rattle.sheet_members.proofs.words.words_behind.Lts as lts
-use Rattle.util.proofs.read_u32_le.Reads as read-u32-le-reads
 
--- src/words.rt:58:9
 returns : tie.Need-returns
 returns c = block-negative _ _ (c .if1 .taken)
 
--- src/words.rt:60:11
 read-u32-le-requires : tie.Need-read-u32-le-requires
 read-u32-le-requires c κs = search needs
 
--- src/words.rt:61:30
 enum-known-size : tie.Need-enum-known-size
 enum-known-size c = search needs
 
--- src/words.rt:61:58
 add-t9 : tie.Need-add-t9
 add-t9 c = search needs
 
--- src/words.rt:61:83
 cast-t10 : tie.Need-cast-t10
 cast-t10 c = search needs
 
--- src/words.rt:61:58
 add-t11 : tie.Need-add-t11
 add-t11 c = search needs
 
--- src/words.rt:62:35
 enum-told : tie.Need-enum-told
 enum-told c = search needs
 
--- src/words.rt:54:1
 returns-2 : tie.Need-returns-2
 returns-2 c = block-read _ _ _ (c .before .before .before .before .if1 .left) (tells toldU32 (c .before .size .given .1) (c .before .before .before .read-u32-le .ensures))
 
--- src/words.rt:54:1
 returns-3 : tie.Need-returns-3
 returns-3 c = block-none _ _ (c .before .before .before .if1 .left) (tells toldU32 (c .enum-told .given .1) (c .before .before .read-u32-le .ensures))
 

@@ -3,73 +3,49 @@ use Rattle.emit.specs.Laws.{known, join}
 use borrow.Author.Needs.{needs}
 use Rattle.sheet_trees.proofs.references.put_file.Statement.{statement}
 use Rattle.sheet_trees.proofs.references.put_file.Tie as tie
-use Rattle.sheet_trees.proofs.references.put_file.Reads as reads
-use Rattle.sheet_trees.proofs.references.put_file.Lts as lts
-use Rattle.emit.proofs.copy_u32.Reads as copy-u32-reads
-use Rattle.emit.proofs.put_bytes.Reads as put-bytes-reads
-use Rattle.emit.proofs.put_le.Reads as put-le-reads
-use Rattle.emit.proofs.put_u8.Reads as put-u8-reads
-use Rattle.emit.proofs.word_at.Reads as word-at-reads
-use Rattle.records.proofs.answer.part.Reads as part-reads
-use Rattle.sheet_trees.proofs.values.put_opt_guid.Reads as put-opt-guid-reads
 
--- src/references.rt:103:28
 enum-known-name : tie.Need-enum-known-name
 enum-known-name c = search needs
 
--- src/references.rt:104:29
 enum-told : tie.Need-enum-told
 enum-told c = search needs
 
--- src/references.rt:104:9
 put-u8-requires : tie.Need-put-u8-requires
 put-u8-requires c κs = search needs
 
--- src/references.rt:104:9
 same-length : tie.Need-same-length
 same-length c = search needs
 
--- src/references.rt:104:9
 returns : tie.Need-returns
 returns c = known (file-none _ _ _ (c .before .before .before .before .enum-told .given .1)) (c .before .before .put-u8 .ensures)
 
--- src/references.rt:106:9
 part-requires : tie.Need-part-requires
 part-requires c κs = search needs
 
--- src/references.rt:107:9
 put-u8-requires-2 : tie.Need-put-u8-requires-2
 put-u8-requires-2 c κs = search needs
 
--- src/references.rt:108:42
 word-at-requires : tie.Need-word-at-requires
 word-at-requires c κs = search needs
 
--- src/references.rt:108:9
 put-opt-guid-requires : tie.Need-put-opt-guid-requires
 put-opt-guid-requires c κs = search needs
 
--- src/references.rt:109:9
 copy-u32-requires : tie.Need-copy-u32-requires
 copy-u32-requires c κs = search needs
 
--- src/references.rt:110:9
 copy-u32-requires-2 : tie.Need-copy-u32-requires-2
 copy-u32-requires-2 c κs = search needs
 
--- src/references.rt:111:9
 put-le-requires : tie.Need-put-le-requires
 put-le-requires c κs = search needs
 
--- src/references.rt:112:5
 put-bytes-requires : tie.Need-put-bytes-requires
 put-bytes-requires c κs = search needs
 
--- src/references.rt:100:1
 same-length-2 : tie.Need-same-length-2
 same-length-2 c = search needs
 
--- src/references.rt:100:1
 returns-2 : tie.Need-returns-2
 returns-2 c = known (file-some _ _ _ (c .before .before .before .before .before .before .before .before .before .before .before .before .before .before .before .before .before .before .before .before .before .before .before .before .before .before .before .name .given .1) (c .before .before .before .before .before .before .before .before .before .before .before .before .before .before .before .before .before .before .before .before .before .before .before .before .before .part .ensures) (c .before .before .before .before .before .before .before .before .before .before .before .before .before .before .before .before .before .before .before .before .word-at .ensures)) (join (c .before .before .before .before .before .before .before .before .before .before .before .before .before .before .before .before .before .before .before .before .before .before .before .put-u82 .ensures) (join (c .before .before .before .before .before .before .before .before .before .before .before .before .before .before .before .before .before .before .put-opt-guid .ensures) (join (c .before .before .before .before .before .before .before .before .before .before .before .before .before .before .copy-u32 .ensures) (join (c .before .before .before .before .before .before .before .before .before .before .copy-u322 .ensures) (join (c .before .before .before .before .before .before .put-le .ensures) (c .before .before .put-bytes .ensures))))))
 

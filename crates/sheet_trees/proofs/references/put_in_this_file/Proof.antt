@@ -6,73 +6,52 @@ use mathlib.Core.Path.{_≡_, refl}
 use borrow.Author.Needs.{needs}
 use Rattle.sheet_trees.proofs.references.put_in_this_file.Statement.{statement}
 use Rattle.sheet_trees.proofs.references.put_in_this_file.Tie as tie
-use Rattle.sheet_trees.proofs.references.put_in_this_file.Reads as reads
-use Rattle.sheet_trees.proofs.references.put_in_this_file.Lts as lts
-use Rattle.emit.proofs.put_u8.Reads as put-u8-reads
-use Rattle.sheet_trees.proofs.references.put_internal.Reads as put-internal-reads
-use Rattle.util.proofs.bits.Reads as bits-reads
 
--- src/references.rt:48:9
 put-u8-requires : tie.Need-put-u8-requires
 put-u8-requires c κs = search needs
 
--- src/references.rt:48:9
 same-length : tie.Need-same-length
 same-length c = search needs
 
--- src/references.rt:48:9
 returns : tie.Need-returns
 returns c = known (here-long _ _ _ (c .before .before .before .before .if1 .taken)) (c .before .before .put-u8 .ensures)
 
--- src/references.rt:51:9
 put-u8-requires-2 : tie.Need-put-u8-requires-2
 put-u8-requires-2 c κs = search needs
 
--- src/references.rt:51:9
 same-length-2 : tie.Need-same-length-2
 same-length-2 c = search needs
 
--- src/references.rt:51:9
 returns-2 : tie.Need-returns-2
 returns-2 c = known (here-negative _ _ _ (c .before .before .before .before .before .if1 .left) (c .before .before .before .before .if2 .taken)) (c .before .before .put-u82 .ensures)
 
--- src/references.rt:53:9
 bits-requires : tie.Need-bits-requires
 bits-requires c κs = search needs
 
--- src/references.rt:54:25
 mul-index : tie.Need-mul-index
 mul-index c = search needs
 
--- src/references.rt:54:18
 sub-index : tie.Need-sub-index
 sub-index c = search needs
 
--- src/references.rt:56:41
 cast-t17 : tie.Need-cast-t17
 cast-t17 c = search needs
 
--- src/references.rt:56:9
 put-internal-requires : tie.Need-put-internal-requires
 put-internal-requires c κs = search needs
 
--- src/references.rt:58:9
 put-u8-requires-3 : tie.Need-put-u8-requires-3
 put-u8-requires-3 c κs = search needs
 
--- src/references.rt:44:1
 same-length-3 : tie.Need-same-length-3
 same-length-3 c = search needs
 
--- src/references.rt:44:1
 returns-3 : tie.Need-returns-3
 returns-3 c = known (here-index _ _ _ _ _ (c .before .before .before .before .before .bits .ensures) refl (c .before .before .before .before .before .before .before .if1 .left) (omega arith) (c .before .before .before .before .if3 .taken)) (c .before .before .put-internal .ensures)
 
--- src/references.rt:44:1
 same-length-4 : tie.Need-same-length-4
 same-length-4 c = search needs
 
--- src/references.rt:44:1
 returns-4 : tie.Need-returns-4
 returns-4 c = known (here-beyond _ _ _ _ _ (c .before .before .before .before .before .bits .ensures) refl (c .before .before .before .before .before .before .before .if1 .left) (omega arith) (c .before .before .before .before .if3 .left)) (c .before .before .put-u83 .ensures)
 

@@ -3,28 +3,19 @@ use Rattle.emit.specs.Laws.{known, join}
 use borrow.Author.Needs.{needs}
 use Rattle.sheet_trees.proofs.references.put_internal.Statement.{statement}
 use Rattle.sheet_trees.proofs.references.put_internal.Tie as tie
-use Rattle.sheet_trees.proofs.references.put_internal.Reads as reads
-use Rattle.sheet_trees.proofs.references.put_internal.Lts as lts
-use Rattle.emit.proofs.put_le.Reads as put-le-reads
-use Rattle.emit.proofs.put_u8.Reads as put-u8-reads
 
--- src/references.rt:56:9
 put-u8-requires : tie.Need-put-u8-requires
 put-u8-requires c κs = search needs
 
--- src/references.rt:57:9
 put-le-requires : tie.Need-put-le-requires
 put-le-requires c κs = search needs
 
--- src/references.rt:58:5
 put-le-requires-2 : tie.Need-put-le-requires-2
 put-le-requires-2 c κs = search needs
 
--- src/references.rt:53:1
 same-length : tie.Need-same-length
 same-length c = search needs
 
--- src/references.rt:53:1
 returns : tie.Need-returns
 returns c = known (internal-is _ _) (join (c .before .before .before .before .before .before .before .before .before .before .put-u8 .ensures) (join (c .before .before .before .before .before .before .put-le .ensures) (c .before .before .put-le2 .ensures)))
 

@@ -3,45 +3,31 @@ use Rattle.emit.specs.Laws.{known}
 use borrow.Author.Needs.{needs}
 use Rattle.sheet_trees.proofs.references.put_opt_file.Statement.{statement}
 use Rattle.sheet_trees.proofs.references.put_opt_file.Tie as tie
-use Rattle.sheet_trees.proofs.references.put_opt_file.Reads as reads
-use Rattle.sheet_trees.proofs.references.put_opt_file.Lts as lts
-use Rattle.emit.proofs.put_u8.Reads as put-u8-reads
-use Rattle.records.proofs.impfile.ImpFile.filename_bytes.Reads as filename-bytes-reads
-use Rattle.sheet_trees.proofs.references.put_file.Reads as put-file-reads
 
--- src/references.rt:97:30
 enum-known-imp-file : tie.Need-enum-known-imp-file
 enum-known-imp-file c = search needs
 
--- src/references.rt:97:56
 filename-bytes-requires : tie.Need-filename-bytes-requires
 filename-bytes-requires c κs = search needs
 
--- src/references.rt:97:36
 put-file-requires : tie.Need-put-file-requires
 put-file-requires c κs = search needs
 
--- src/references.rt:98:51
 enum-told : tie.Need-enum-told
 enum-told c = search needs
 
--- src/references.rt:98:38
 put-u8-requires : tie.Need-put-u8-requires
 put-u8-requires c κs = search needs
 
--- src/references.rt:93:1
 same-length : tie.Need-same-length
 same-length c = search needs
 
--- src/references.rt:93:1
 returns : tie.Need-returns
 returns c = known (file-named _ _ _ (c .before .before .before .before .before .before .imp-file .given .1) (c .before .before .before .before .filename-bytes .ensures)) (c .before .before .put-file .ensures)
 
--- src/references.rt:93:1
 same-length-2 : tie.Need-same-length-2
 same-length-2 c = search needs
 
--- src/references.rt:93:1
 returns-2 : tie.Need-returns-2
 returns-2 c = known (file-missing _ _ (c .before .before .before .before .enum-told .given .1)) (c .before .before .put-u8 .ensures)
 

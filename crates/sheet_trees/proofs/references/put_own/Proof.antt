@@ -3,32 +3,22 @@ use Rattle.emit.specs.Laws.{known}
 use borrow.Author.Needs.{needs}
 use Rattle.sheet_trees.proofs.references.put_own.Statement.{statement}
 use Rattle.sheet_trees.proofs.references.put_own.Tie as tie
-use Rattle.sheet_trees.proofs.references.put_own.Reads as reads
-use Rattle.sheet_trees.proofs.references.put_own.Lts as lts
-use Rattle.emit.proofs.put_u32.Reads as put-u32-reads
-use Rattle.sheet_trees.proofs.values.put_opt_guid.Reads as put-opt-guid-reads
 
--- src/references.rt:85:9
 put-opt-guid-requires : tie.Need-put-opt-guid-requires
 put-opt-guid-requires c κs = search needs
 
--- src/references.rt:87:9
 put-u32-requires : tie.Need-put-u32-requires
 put-u32-requires c κs = search needs
 
--- src/references.rt:81:1
 same-length : tie.Need-same-length
 same-length c = search needs
 
--- src/references.rt:81:1
 returns : tie.Need-returns
 returns c = known (own-guid _ _ _ _ (c .before .before .before .before .if1 .taken)) (c .before .before .put-opt-guid .ensures)
 
--- src/references.rt:81:1
 same-length-2 : tie.Need-same-length-2
 same-length-2 c = search needs
 
--- src/references.rt:81:1
 returns-2 : tie.Need-returns-2
 returns-2 c = known (own-word _ _ _ _ (c .before .before .before .before .if1 .left)) (c .before .before .put-u32 .ensures)
 

@@ -7,55 +7,37 @@ use Rattle.emit.specs.Laws.{known}
 use borrow.Author.Needs.{needs}
 use Rattle.sheet_trees.proofs.references.put_reference.Statement.{statement}
 use Rattle.sheet_trees.proofs.references.put_reference.Tie as tie
-use Rattle.sheet_trees.proofs.references.put_reference.Reads as reads
-use Rattle.sheet_trees.proofs.references.put_reference.Lts as lts
-use Rattle.emit.proofs.put_u8.Reads as put-u8-reads
-use Rattle.sheet_trees.proofs.references.put_resolved.Reads as put-resolved-reads
-use Rattle.typelib.proofs.TypeLib.resolve_hreftype_full.Reads as resolve-hreftype-full-reads
-use Rattle.util.proofs.bits.Reads as bits-reads
-use Rattle.util.proofs.signed32.Reads as signed32-reads
 
--- src/references.rt:29:9
 bits-requires : tie.Need-bits-requires
 bits-requires c κs = search needs
 
--- src/references.rt:30:40
 signed32-requires : tie.Need-signed32-requires
 signed32-requires c κs = search needs
 
--- src/references.rt:30:11
 resolve-hreftype-full-requires : tie.Need-resolve-hreftype-full-requires
 resolve-hreftype-full-requires c κs = search needs
 
--- src/references.rt:31:31
 enum-known-r : tie.Need-enum-known-r
 enum-known-r c = search needs
 
--- src/references.rt:31:37
 put-resolved-requires : tie.Need-put-resolved-requires
 put-resolved-requires c κs = search needs
 
--- src/references.rt:32:52
 enum-told : tie.Need-enum-told
 enum-told c = search needs
 
--- src/references.rt:32:39
 put-u8-requires : tie.Need-put-u8-requires
 put-u8-requires c κs = search needs
 
--- src/references.rt:26:1
 same-length : tie.Need-same-length
 same-length c = search needs
 
--- src/references.rt:26:1
 returns : tie.Need-returns
 returns c = known (reference-some _ _ _ _ (ap (ofZ w32) (toZ-ofZ w32 _ (record { sfits = c .before .before .before .before .before .before .before .before .signed32 .ok }) ∙ c .before .before .before .before .before .before .before .before .signed32 .ensures) ∙ ofZ-toZ w32 _ (c .before .before .before .before .before .before .before .before .before .before .before .before .fits .href)) (c .before .before .before .before .before .before .before .resolve-hreftype-full .ensures) (c .before .before .before .before .before .before .before .before .before .bits .ensures) (c .before .before .before .before .before .r .given .1)) (c .before .before .put-resolved .ensures)
 
--- src/references.rt:26:1
 same-length-2 : tie.Need-same-length-2
 same-length-2 c = search needs
 
--- src/references.rt:26:1
 returns-2 : tie.Need-returns-2
 returns-2 c = known (reference-none _ _ _ _ (ap (ofZ w32) (toZ-ofZ w32 _ (record { sfits = c .before .before .before .before .before .before .before .signed32 .ok }) ∙ c .before .before .before .before .before .before .before .signed32 .ensures) ∙ ofZ-toZ w32 _ (c .before .before .before .before .before .before .before .before .before .before .before .fits .href)) (c .before .before .before .before .before .before .resolve-hreftype-full .ensures) (c .before .before .before .before .enum-told .given .1)) (c .before .before .put-u8 .ensures)
 

@@ -5,40 +5,28 @@ use mathlib.Core.Path.{ap}
 use borrow.Author.Needs.{needs}
 use Rattle.sheet_trees.proofs.references.put_resolved.Statement.{statement}
 use Rattle.sheet_trees.proofs.references.put_resolved.Tie as tie
-use Rattle.sheet_trees.proofs.references.put_resolved.Reads as reads
-use Rattle.sheet_trees.proofs.references.put_resolved.Lts as lts
-use Rattle.sheet_trees.proofs.references.put_import.Reads as put-import-reads
-use Rattle.sheet_trees.proofs.references.put_internal.Reads as put-internal-reads
 
--- src/references.rt:48:36
 enum-known-resolved : tie.Need-enum-known-resolved
 enum-known-resolved c = search needs
 
--- src/references.rt:48:46
 put-internal-requires : tie.Need-put-internal-requires
 put-internal-requires c κs = search needs
 
--- src/references.rt:49:36
 enum-known-resolved-2 : tie.Need-enum-known-resolved-2
 enum-known-resolved-2 c = search needs
 
--- src/references.rt:49:51
 put-import-requires : tie.Need-put-import-requires
 put-import-requires c κs = search needs
 
--- src/references.rt:37:1
 same-length : tie.Need-same-length
 same-length c = search needs
 
--- src/references.rt:37:1
 returns : tie.Need-returns
 returns c = known (resolved-internal _ _ _ _ (ap toldHreftype (c .before .before .before .before .before .resolved .given .1))) (c .before .before .put-internal .ensures)
 
--- src/references.rt:37:1
 same-length-2 : tie.Need-same-length-2
 same-length-2 c = search needs
 
--- src/references.rt:37:1
 returns-2 : tie.Need-returns-2
 returns-2 c = known (resolved-external _ _ _ _ (ap toldHreftype (c .before .before .before .before .before .resolved2 .given .1))) (c .before .before .put-import .ensures)
 

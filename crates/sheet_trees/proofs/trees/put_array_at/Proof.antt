@@ -7,50 +7,34 @@ use Rattle.sheet_trees.specs.Parts.{arrayOf}
 use borrow.Author.Needs.{needs}
 use Rattle.sheet_trees.proofs.trees.put_array_at.Statement.{statement}
 use Rattle.sheet_trees.proofs.trees.put_array_at.Tie as tie
-use Rattle.sheet_trees.proofs.trees.put_array_at.Reads as reads
-use Rattle.sheet_trees.proofs.trees.put_array_at.Lts as lts
-use Rattle.emit.proofs.word_at.Reads as word-at-reads
-use Rattle.sheet_trees.proofs.trees.put_array.Reads as put-array-reads
-use Rattle.sheet_trees.proofs.trees.put_nothing.Reads as put-nothing-reads
-use Rattle.typelib.proofs.TypeLib.array_desc_at.Reads as array-desc-at-reads
 
--- src/trees.rt:166:11
 array-desc-at-requires : tie.Need-array-desc-at-requires
 array-desc-at-requires c κs = search needs
 
--- src/trees.rt:167:32
 enum-known-desc : tie.Need-enum-known-desc
 enum-known-desc c = search needs
 
--- src/trees.rt:168:17
 put-array-requires : tie.Need-put-array-requires
 put-array-requires c κs = search needs
 
--- src/trees.rt:169:33
 word-at-requires : tie.Need-word-at-requires
 word-at-requires c κs = search needs
 
--- src/trees.rt:171:52
 enum-told : tie.Need-enum-told
 enum-told c = search needs
 
--- src/trees.rt:171:40
 put-nothing-requires : tie.Need-put-nothing-requires
 put-nothing-requires c κs = search needs
 
--- src/trees.rt:163:1
 same-length : tie.Need-same-length
 same-length c = search needs
 
--- src/trees.rt:163:1
 returns : tie.Need-returns
 returns c = level-as _ _ (ap arrayOf (tells toldArrayDesc (c .before .before .before .before .before .before .desc .given .1) (c .before .before .before .before .before .before .before .before .array-desc-at .ensures))) (level-array _ _ _ (c .before .before .before .put-array .ensures, ap some (c .word-at .ensures)))
 
--- src/trees.rt:163:1
 same-length-2 : tie.Need-same-length-2
 same-length-2 c = search needs
 
--- src/trees.rt:163:1
 returns-2 : tie.Need-returns-2
 returns-2 c = level-as _ _ (ap arrayOf (tells toldArrayDesc (c .before .before .before .before .enum-told .given .1) (c .before .before .before .before .before .before .array-desc-at .ensures))) (level-nothing _ _ _ (c .before .before .put-nothing .ensures))
 

@@ -6,87 +6,62 @@ use mathlib.Core.Path.{_≡_, refl, ap, _∙_, sym}
 use borrow.Author.Needs.{needs}
 use Rattle.sheet_trees.proofs.trees.put_descriptor.Statement.{statement}
 use Rattle.sheet_trees.proofs.trees.put_descriptor.Tie as tie
-use Rattle.sheet_trees.proofs.trees.put_descriptor.Reads as reads
-use Rattle.sheet_trees.proofs.trees.put_descriptor.Lts as lts
-use Rattle.sheet_trees.proofs.trees.put_array_at.Reads as put-array-at-reads
-use Rattle.sheet_trees.proofs.trees.put_leaf.Reads as put-leaf-reads
-use Rattle.sheet_trees.proofs.trees.put_over.Reads as put-over-reads
-use Rattle.sheet_trees.proofs.trees.put_user.Reads as put-user-reads
-use Rattle.util.proofs.bits.Reads as bits-reads
 
--- src/trees.rt:102:9
 bits-requires : tie.Need-bits-requires
 bits-requires c κs = search needs
 
--- src/trees.rt:104:15
 put-over-requires : tie.Need-put-over-requires
 put-over-requires c κs = search needs
 
--- src/trees.rt:105:15
 put-over-requires-2 : tie.Need-put-over-requires-2
 put-over-requires-2 c κs = search needs
 
--- src/trees.rt:106:36
 bits-requires-2 : tie.Need-bits-requires-2
 bits-requires-2 c κs = search needs
 
--- src/trees.rt:106:15
 put-array-at-requires : tie.Need-put-array-at-requires
 put-array-at-requires c κs = search needs
 
--- src/trees.rt:107:15
 put-user-requires : tie.Need-put-user-requires
 put-user-requires c κs = search needs
 
--- src/trees.rt:108:23
 cast-put-leaf : tie.Need-cast-put-leaf
 cast-put-leaf c = search needs
 
--- src/trees.rt:108:14
 put-leaf-requires : tie.Need-put-leaf-requires
 put-leaf-requires c κs = search needs
 
--- src/trees.rt:92:1
 same-length : tie.Need-same-length
 same-length c = search needs
 
--- src/trees.rt:92:1
 returns : tie.Need-returns
 unfolding descriptionOf
 returns c = level-as _ _ (description-case 26 (c .before .before .before .before .before .before .before .before .args .s .now) (c .before .before .before .before .before .before .before .before .args .lib) _ (c .before .before .before .before .before .before .before .before .args .second) _ (sym (c .before .before .before .before .before .bits .ensures) ∙ c .before .before .before .before .match .keys1) refl) (level-pointer _ _ (c .before .before .before .before .before .before .before .before .fits .second) (c .before .before .put-over .ensures))
 
--- src/trees.rt:92:1
 same-length-2 : tie.Need-same-length-2
 same-length-2 c = search needs
 
--- src/trees.rt:92:1
 returns-2 : tie.Need-returns-2
 unfolding descriptionOf
 returns-2 c = level-as _ _ (description-case 27 (c .before .before .before .before .before .before .before .before .args .s .now) (c .before .before .before .before .before .before .before .before .args .lib) _ (c .before .before .before .before .before .before .before .before .args .second) _ (sym (c .before .before .before .before .before .bits .ensures) ∙ c .before .before .before .before .match .keys2) refl) (level-safe-array _ _ (c .before .before .before .before .before .before .before .before .fits .second) (c .before .before .put-over2 .ensures))
 
--- src/trees.rt:92:1
 same-length-3 : tie.Need-same-length-3
 same-length-3 c = search needs
 
--- src/trees.rt:92:1
 returns-3 : tie.Need-returns-3
 unfolding descriptionOf
 returns-3 c = level-as _ _ (description-case 28 (c .before .before .before .before .before .before .before .before .before .args .s .now) (c .before .before .before .before .before .before .before .before .before .args .lib) _ (c .before .before .before .before .before .before .before .before .before .args .second) _ (sym (c .before .before .before .before .before .before .bits .ensures) ∙ c .before .before .before .before .before .match .keys3) (ap (λ n. arrayOf (arrayDescAt (c .before .before .before .before .before .before .before .before .before .args .s .now) (c .before .before .before .before .before .before .before .before .before .args .lib) n)) (c .before .before .before .before .bits2 .ensures))) (c .before .before .put-array-at .ensures)
 
--- src/trees.rt:92:1
 same-length-4 : tie.Need-same-length-4
 same-length-4 c = search needs
 
--- src/trees.rt:92:1
 returns-4 : tie.Need-returns-4
 unfolding descriptionOf
 returns-4 c = level-as _ _ (description-case 29 (c .before .before .before .before .before .before .before .before .args .s .now) (c .before .before .before .before .before .before .before .before .args .lib) _ (c .before .before .before .before .before .before .before .before .args .second) _ (sym (c .before .before .before .before .before .bits .ensures) ∙ c .before .before .before .before .match .keys4) refl) (level-user _ _ (c .before .before .before .before .before .before .before .before .fits .second) (c .before .before .put-user .ensures))
 
--- src/trees.rt:92:1
 same-length-5 : tie.Need-same-length-5
 same-length-5 c = search needs
 
--- src/trees.rt:92:1
 returns-5 : tie.Need-returns-5
 returns-5 c = level-as _ _ (description-base _ _ _ _ (c .before .before .before .before .match .rest .0 .0 .0 .1) (c .before .before .before .before .match .rest .0 .0 .1) (c .before .before .before .before .match .rest .0 .1) (c .before .before .before .before .match .rest .1) ∙ ap (λ n. descriptionOf (c .before .before .before .before .before .before .before .before .args .s .now) (c .before .before .before .before .before .before .before .before .args .lib) n (c .before .before .before .before .before .before .before .before .args .second)) (c .before .before .before .before .before .bits .ensures)) (level-base _ _ _ (c .before .before .put-leaf .ensures))
 

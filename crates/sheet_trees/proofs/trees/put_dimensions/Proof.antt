@@ -9,9 +9,6 @@ use native.Mathlib.Omega.{arith}
 use borrow.Author.Needs.{needs}
 use Rattle.sheet_trees.proofs.trees.put_dimensions.Statement.{statement}
 use Rattle.sheet_trees.proofs.trees.put_dimensions.Tie as tie
-use Rattle.sheet_trees.proofs.trees.put_dimensions.Reads as reads
-use Rattle.sheet_trees.proofs.trees.put_dimensions.Lts as lts
-use Rattle.emit.proofs.copy_u32.Reads as copy-u32-reads
 
 abbrev Inv-loop : tie.InvT-loop
 Inv-loop s at count out₀ to t₀ offset₀ left₀ out t offset left = Left (value (dimensionsBytes s (at + 8) count)) (put t₀) out₀ (value (dimensionsBytes s (at + offset) left)) (put t) out × (offset + 8 * left ≡ 8 + 8 * count)
@@ -19,43 +16,33 @@ Inv-loop s at count out₀ to t₀ offset₀ left₀ out t offset left = Left (v
 abbrev μ-loop : tie.MeasureT-loop
 μ-loop s at count out₀ to t₀ offset₀ left₀ out t offset left = left
 
--- src/trees.rt:109:5
 loop-holds : tie.Need-loop-holds Inv-loop μ-loop
 loop-holds c = (left-all, omega arith)
 
--- src/trees.rt:110:9
 copy-u32-requires : tie.Need-copy-u32-requires Inv-loop μ-loop
 copy-u32-requires c κs = search needs
 
--- src/trees.rt:111:35
 add-copy-u32 : tie.Need-add-copy-u32 Inv-loop μ-loop
 add-copy-u32 c = omega arith
 
--- src/trees.rt:111:9
 copy-u32-requires-2 : tie.Need-copy-u32-requires-2 Inv-loop μ-loop
 copy-u32-requires-2 c κs = search needs
 
--- src/trees.rt:112:9
 add-offset : tie.Need-add-offset Inv-loop μ-loop
 add-offset c = omega arith
 
--- src/trees.rt:113:9
 sub-left : tie.Need-sub-left Inv-loop μ-loop
 sub-left c = omega arith
 
--- src/trees.rt:109:5
 loop-less : tie.Need-loop-less Inv-loop μ-loop
 loop-less c = omega arith
 
--- src/trees.rt:109:5
 loop-again : tie.Need-loop-again Inv-loop μ-loop
 loop-again c = (left-less (c .before .before .before .before .before .before .before .before .before .loop .inv .0) (join (c .before .before .before .before .before .before .copy-u32 .ensures) (c .before .before .copy-u322 .ensures)) (dimensions-more _ _ _ _ (c .before .before .before .before .before .before .before .before .loop-test .taken)), omega arith)
 
--- src/trees.rt:103:1
 same-length : tie.Need-same-length Inv-loop μ-loop
 same-length c = left-none (c .before .loop .inv .0) (dimensions-none _ _ _ (c .loop-test .left)) .keeps
 
--- src/trees.rt:103:1
 returns : tie.Need-returns Inv-loop μ-loop
 returns c = left-none (c .before .loop .inv .0) (dimensions-none _ _ _ (c .loop-test .left))
 

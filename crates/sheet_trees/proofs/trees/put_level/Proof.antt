@@ -7,79 +7,55 @@ use mathlib.Core.Path.{_≡_, refl, ap, _∙_, sym}
 use borrow.Author.Needs.{needs}
 use Rattle.sheet_trees.proofs.trees.put_level.Statement.{statement}
 use Rattle.sheet_trees.proofs.trees.put_level.Tie as tie
-use Rattle.sheet_trees.proofs.trees.put_level.Reads as reads
-use Rattle.sheet_trees.proofs.trees.put_level.Lts as lts
-use Rattle.sheet_trees.proofs.trees.put_descriptor.Reads as put-descriptor-reads
-use Rattle.sheet_trees.proofs.trees.put_leaf.Reads as put-leaf-reads
-use Rattle.sheet_trees.proofs.trees.put_nothing.Reads as put-nothing-reads
-use Rattle.typelib.proofs.TypeLib.type_desc_at.Reads as type-desc-at-reads
-use Rattle.util.proofs.bits.Reads as bits-reads
 
--- src/trees.rt:80:9
 put-nothing-requires : tie.Need-put-nothing-requires
 put-nothing-requires c κs = search needs
 
--- src/trees.rt:80:9
 same-length : tie.Need-same-length
 same-length c = search needs
 
--- src/trees.rt:80:9
 returns : tie.Need-returns
 returns c = level-as _ _ (lent-long _ _ (c .before .before .before .before .if1 .taken)) (level-nothing _ _ _ (c .before .before .put-nothing .ensures))
 
--- src/trees.rt:83:25
 bits-requires : tie.Need-bits-requires
 bits-requires c κs = search needs
 
--- src/trees.rt:83:25
 cast-put-leaf : tie.Need-cast-put-leaf
 cast-put-leaf c = search needs
 
--- src/trees.rt:83:9
 put-leaf-requires : tie.Need-put-leaf-requires
 put-leaf-requires c κs = search needs
 
--- src/trees.rt:83:9
 same-length-2 : tie.Need-same-length-2
 same-length-2 c = search needs
 
--- src/trees.rt:83:9
 returns-2 : tie.Need-returns-2
 returns-2 c = level-as _ _ (lent-fits _ _ _ (c .before .before .before .before .before .before .if1 .left) (field-base _ _ _ _ (c .before .before .before .before .before .if2 .taken) (c .before .before .before .before .bits .ensures))) (level-base _ _ _ (c .before .before .put-leaf .ensures))
 
--- src/trees.rt:85:11
 type-desc-at-requires : tie.Need-type-desc-at-requires
 type-desc-at-requires c κs = search needs
 
--- src/trees.rt:86:27
 enum-known-words : tie.Need-enum-known-words
 enum-known-words c = search needs
 
--- src/trees.rt:86:37
 put-descriptor-requires : tie.Need-put-descriptor-requires
 put-descriptor-requires c κs = search needs
 
--- src/trees.rt:87:47
 enum-told : tie.Need-enum-told
 enum-told c = search needs
 
--- src/trees.rt:87:35
 put-nothing-requires-2 : tie.Need-put-nothing-requires-2
 put-nothing-requires-2 c κs = search needs
 
--- src/trees.rt:76:1
 same-length-3 : tie.Need-same-length-3
 same-length-3 c = search needs
 
--- src/trees.rt:76:1
 returns-3 : tie.Need-returns-3
 returns-3 c = level-as _ _ (lent-fits _ _ _ (c .before .before .before .before .before .before .before .before .before .if1 .left) (field-entry _ _ _ _ (c .before .before .before .before .before .before .before .before .if2 .left) (bind-value _ _ _ _ (tells toldPair (c .before .before .before .before .before .words .given .1) (c .before .before .before .before .before .before .before .type-desc-at .ensures)) refl))) (c .before .before .put-descriptor .ensures)
 
--- src/trees.rt:76:1
 same-length-4 : tie.Need-same-length-4
 same-length-4 c = search needs
 
--- src/trees.rt:76:1
 returns-4 : tie.Need-returns-4
 returns-4 c = level-as _ _ (lent-fits _ _ _ (c .before .before .before .before .before .before .before .before .if1 .left) (field-entry _ _ _ _ (c .before .before .before .before .before .before .before .if2 .left) (bind-refused _ _ _ (tells toldPair (c .before .before .before .before .enum-told .given .1) (c .before .before .before .before .before .before .type-desc-at .ensures))))) (level-nothing _ _ _ (c .before .before .put-nothing2 .ensures))
 

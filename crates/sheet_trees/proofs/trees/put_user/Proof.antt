@@ -5,42 +5,28 @@ use Rattle.emit.specs.Laws.{known, join}
 use borrow.Author.Needs.{needs}
 use Rattle.sheet_trees.proofs.trees.put_user.Statement.{statement}
 use Rattle.sheet_trees.proofs.trees.put_user.Tie as tie
-use Rattle.sheet_trees.proofs.trees.put_user.Reads as reads
-use Rattle.sheet_trees.proofs.trees.put_user.Lts as lts
-use Rattle.emit.proofs.put_u8.Reads as put-u8-reads
-use Rattle.sheet_trees.proofs.references.put_in_this_file.Reads as put-in-this-file-reads
-use Rattle.sheet_trees.proofs.references.put_reference.Reads as put-reference-reads
-use Rattle.util.proofs.bits.Reads as bits-reads
 
--- src/trees.rt:150:9
 put-u8-requires : tie.Need-put-u8-requires
 put-u8-requires c κs = search needs
 
--- src/trees.rt:151:18
 bits-requires : tie.Need-bits-requires
 bits-requires c κs = search needs
 
--- src/trees.rt:152:9
 put-in-this-file-requires : tie.Need-put-in-this-file-requires
 put-in-this-file-requires c κs = search needs
 
--- src/trees.rt:154:9
 put-reference-requires : tie.Need-put-reference-requires
 put-reference-requires c κs = search needs
 
--- src/trees.rt:147:1
 same-length : tie.Need-same-length
 same-length c = search needs
 
--- src/trees.rt:147:1
 returns : tie.Need-returns
 returns c = (join (c .before .before .before .before .before .before .before .before .put-u8 .ensures) (known (here-referred _ _ _ (omega (arith, c .before .before .before .before .before .bits .ensures))) (c .before .before .put-in-this-file .ensures)), refl)
 
--- src/trees.rt:147:1
 same-length-2 : tie.Need-same-length-2
 same-length-2 c = search needs
 
--- src/trees.rt:147:1
 returns-2 : tie.Need-returns-2
 returns-2 c = (join (c .before .before .before .before .before .before .before .before .put-u8 .ensures) (c .before .before .put-reference .ensures), refl)
 

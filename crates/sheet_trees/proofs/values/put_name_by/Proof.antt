@@ -6,45 +6,31 @@ use Rattle.emit.specs.Laws.{known}
 use borrow.Author.Needs.{needs}
 use Rattle.sheet_trees.proofs.values.put_name_by.Statement.{statement}
 use Rattle.sheet_trees.proofs.values.put_name_by.Tie as tie
-use Rattle.sheet_trees.proofs.values.put_name_by.Reads as reads
-use Rattle.sheet_trees.proofs.values.put_name_by.Lts as lts
-use Rattle.emit.proofs.put_u8.Reads as put-u8-reads
-use Rattle.sheet_trees.proofs.values.put_opt_counted.Reads as put-opt-counted-reads
-use Rattle.typelib.proofs.TypeLib.name_bytes.Reads as name-bytes-reads
 
--- src/values.rt:51:26
 enum-known-offset : tie.Need-enum-known-offset
 enum-known-offset c = search needs
 
--- src/values.rt:52:29
 enum-told : tie.Need-enum-told
 enum-told c = search needs
 
--- src/values.rt:52:9
 put-u8-requires : tie.Need-put-u8-requires
 put-u8-requires c κs = search needs
 
--- src/values.rt:52:9
 same-length : tie.Need-same-length
 same-length c = search needs
 
--- src/values.rt:52:9
 returns : tie.Need-returns
 returns c = known (name-missing _ _ (c .before .before .before .before .enum-told .given .1)) (c .before .before .put-u8 .ensures)
 
--- src/values.rt:54:21
 name-bytes-requires : tie.Need-name-bytes-requires
 name-bytes-requires c κs = search needs
 
--- src/values.rt:54:5
 put-opt-counted-requires : tie.Need-put-opt-counted-requires
 put-opt-counted-requires c κs = search needs
 
--- src/values.rt:48:1
 same-length-2 : tie.Need-same-length-2
 same-length-2 c = search needs
 
--- src/values.rt:48:1
 returns-2 : tie.Need-returns-2
 returns-2 c = known (name-by _ _ _ (c .before .before .before .before .before .before .offset .given .1) (c .before .before .before .before .name-bytes .ensures ∙ ap (nameBytes (c .before .before .before .before .before .before .before .before .before .before .args .s .now) (c .before .before .before .before .before .before .before .before .before .before .args .lib)) (pattern (c .before .before .before .before .before .before .offset .given .0 .0) _ (record { sfits = c .before .before .before .before .before .known-told .given .0 .1 }) refl))) (c .before .before .put-opt-counted .ensures)
 

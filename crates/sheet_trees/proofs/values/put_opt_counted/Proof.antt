@@ -3,58 +3,40 @@ use Rattle.sheet_trees.proofs.PartLaws.{counted-some, part-none}
 use borrow.Author.Needs.{needs}
 use Rattle.sheet_trees.proofs.values.put_opt_counted.Statement.{statement}
 use Rattle.sheet_trees.proofs.values.put_opt_counted.Tie as tie
-use Rattle.sheet_trees.proofs.values.put_opt_counted.Reads as reads
-use Rattle.sheet_trees.proofs.values.put_opt_counted.Lts as lts
-use Rattle.emit.proofs.put_bytes.Reads as put-bytes-reads
-use Rattle.emit.proofs.put_le.Reads as put-le-reads
-use Rattle.emit.proofs.put_u8.Reads as put-u8-reads
-use Rattle.records.proofs.answer.part.Reads as part-reads
 
--- src/values.rt:22:28
 enum-known-place : tie.Need-enum-known-place
 enum-known-place c = search needs
 
--- src/values.rt:23:17
 part-requires : tie.Need-part-requires
 part-requires c κs = search needs
 
--- src/values.rt:24:47
 mul-put-le : tie.Need-mul-put-le
 mul-put-le c = search needs
 
--- src/values.rt:24:43
 add-put-le : tie.Need-add-put-le
 add-put-le c = search needs
 
--- src/values.rt:24:17
 put-le-requires : tie.Need-put-le-requires
 put-le-requires c κs = search needs
 
--- src/values.rt:25:13
 put-bytes-requires : tie.Need-put-bytes-requires
 put-bytes-requires c κs = search needs
 
--- src/values.rt:27:49
 enum-told : tie.Need-enum-told
 enum-told c = search needs
 
--- src/values.rt:27:36
 put-u8-requires : tie.Need-put-u8-requires
 put-u8-requires c κs = search needs
 
--- src/values.rt:18:1
 same-length : tie.Need-same-length
 same-length c = search needs
 
--- src/values.rt:18:1
 returns : tie.Need-returns
 returns c = known (counted-some _ (c .before .before .before .before .before .before .before .before .before .before .place .given .1) (c .before .before .before .before .before .before .before .before .part .ensures)) (join (c .before .before .before .before .before .before .put-le .ensures) (c .before .before .put-bytes .ensures))
 
--- src/values.rt:18:1
 same-length-2 : tie.Need-same-length-2
 same-length-2 c = search needs
 
--- src/values.rt:18:1
 returns-2 : tie.Need-returns-2
 returns-2 c = known (part-none _ _ (c .before .before .before .before .enum-told .given .1)) (c .before .before .put-u8 .ensures)
 

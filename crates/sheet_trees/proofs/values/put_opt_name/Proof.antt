@@ -3,24 +3,16 @@ use Rattle.emit.specs.Laws.{known}
 use borrow.Author.Needs.{needs}
 use Rattle.sheet_trees.proofs.values.put_opt_name.Statement.{statement}
 use Rattle.sheet_trees.proofs.values.put_opt_name.Tie as tie
-use Rattle.sheet_trees.proofs.values.put_opt_name.Reads as reads
-use Rattle.sheet_trees.proofs.values.put_opt_name.Lts as lts
-use Rattle.sheet_trees.proofs.values.put_opt_counted.Reads as put-opt-counted-reads
-use Rattle.typelib.proofs.TypeLib.name_at.Reads as name-at-reads
 
--- src/values.rt:44:21
 name-at-requires : tie.Need-name-at-requires
 name-at-requires c κs = search needs
 
--- src/values.rt:44:5
 put-opt-counted-requires : tie.Need-put-opt-counted-requires
 put-opt-counted-requires c κs = search needs
 
--- src/values.rt:41:1
 same-length : tie.Need-same-length
 same-length c = search needs
 
--- src/values.rt:41:1
 returns : tie.Need-returns
 returns c = known (name-is _ _ _ _ (c .before .before .before .before .name-at .ensures)) (c .before .before .put-opt-counted .ensures)
 

@@ -5,74 +5,52 @@ use mathlib.Core.Path.{ap}
 use borrow.Author.Needs.{needs}
 use Rattle.sheet_types.proofs.bases.put_base.Statement.{statement}
 use Rattle.sheet_types.proofs.bases.put_base.Tie as tie
-use Rattle.sheet_types.proofs.bases.put_base.Reads as reads
-use Rattle.sheet_types.proofs.bases.put_base.Lts as lts
-use Rattle.emit.proofs.word_at.Reads as word-at-reads
-use Rattle.sheet_types.proofs.bases.put_chain.Reads as put-chain-reads
-use Rattle.sheet_trees.proofs.references.put_reference.Reads as put-reference-reads
-use Rattle.sheet_trees.proofs.trees.put_tree.Reads as put-tree-reads
 
--- src/bases.rt:33:48
 word-at-requires : tie.Need-word-at-requires
 word-at-requires c κs = search needs
 
--- src/bases.rt:33:14
 put-reference-requires : tie.Need-put-reference-requires
 put-reference-requires c κs = search needs
 
--- src/bases.rt:34:48
 word-at-requires-2 : tie.Need-word-at-requires-2
 word-at-requires-2 c κs = search needs
 
--- src/bases.rt:34:14
 put-reference-requires-2 : tie.Need-put-reference-requires-2
 put-reference-requires-2 c κs = search needs
 
--- src/bases.rt:35:14
 put-chain-requires : tie.Need-put-chain-requires
 put-chain-requires c κs = search needs
 
--- src/bases.rt:36:38
 word-at-requires-3 : tie.Need-word-at-requires-3
 word-at-requires-3 c κs = search needs
 
--- src/bases.rt:36:14
 put-tree-requires : tie.Need-put-tree-requires
 put-tree-requires c κs = search needs
 
--- src/bases.rt:22:1
 same-length : tie.Need-same-length
 same-length c = search needs
 
--- src/bases.rt:22:1
 returns : tie.Need-returns
 returns c = known (base-parent _ _ _ _ (c .before .before .before .before .word-at .ensures) (ap baseShapeOf (c .before .before .before .before .before .match .keys1))) (c .before .before .put-reference .ensures)
 
--- src/bases.rt:22:1
 same-length-2 : tie.Need-same-length-2
 same-length-2 c = search needs
 
--- src/bases.rt:22:1
 returns-2 : tie.Need-returns-2
 returns-2 c = known (base-parent _ _ _ _ (c .before .before .before .before .word-at2 .ensures) (ap baseShapeOf (c .before .before .before .before .before .match .keys2))) (c .before .before .put-reference2 .ensures)
 
--- src/bases.rt:22:1
 same-length-3 : tie.Need-same-length-3
 same-length-3 c = search needs
 
--- src/bases.rt:22:1
 returns-3 : tie.Need-returns-3
 returns-3 c = known (base-chain _ _ _ _ (c .before .before .before .before .match .keys3)) (c .before .before .put-chain .ensures)
 
--- src/bases.rt:22:1
 same-length-4 : tie.Need-same-length-4
 same-length-4 c = search needs
 
--- src/bases.rt:22:1
 returns-4 : tie.Need-returns-4
 returns-4 c = known (base-aliased _ _ _ _ (c .before .before .before .before .word-at3 .ensures) (c .before .before .before .before .before .match .keys4)) (c .before .before .put-tree .ensures)
 
--- src/bases.rt:22:1
 returns-5 : tie.Need-returns-5
 returns-5 c = known (base-absent _ _ _ _ (c .match .rest .0 .0 .0 .1) (c .match .rest .0 .0 .1) (c .match .rest .0 .1) (c .match .rest .1)) (skip _ _)
 

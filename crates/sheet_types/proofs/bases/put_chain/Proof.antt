@@ -5,46 +5,31 @@ use mathlib.Core.Path.{ap}
 use borrow.Author.Needs.{needs}
 use Rattle.sheet_types.proofs.bases.put_chain.Statement.{statement}
 use Rattle.sheet_types.proofs.bases.put_chain.Tie as tie
-use Rattle.sheet_types.proofs.bases.put_chain.Reads as reads
-use Rattle.sheet_types.proofs.bases.put_chain.Lts as lts
-use Rattle.emit.proofs.put_refusal.Reads as put-refusal-reads
-use Rattle.sheet_types.proofs.bases.put_walked.Reads as put-walked-reads
-use Rattle.impltypes.proofs.impl_types.Reads as impl-types-reads
-use Rattle.impltypes.proofs.ImplTypeCursor.walk.Reads as walk-reads
 
--- src/bases.rt:45:11
 impl-types-requires : tie.Need-impl-types-requires
 impl-types-requires c κs = search needs
 
--- src/bases.rt:46:32
 enum-known-cursor : tie.Need-enum-known-cursor
 enum-known-cursor c = search needs
 
--- src/bases.rt:46:70
 walk-requires : tie.Need-walk-requires
 walk-requires c κs = search needs
 
--- src/bases.rt:46:43
 put-walked-requires : tie.Need-put-walked-requires
 put-walked-requires c κs = search needs
 
--- src/bases.rt:47:34
 enum-known-n : tie.Need-enum-known-n
 enum-known-n c = search needs
 
--- src/bases.rt:47:40
 put-refusal-requires : tie.Need-put-refusal-requires
 put-refusal-requires c κs = search needs
 
--- src/bases.rt:42:1
 same-length : tie.Need-same-length
 same-length c = search needs
 
--- src/bases.rt:42:1
 returns : tie.Need-returns
 returns c = known (chain-is _ _ _ _ (c .before .before .before .before .before .before .before .before .impl-types .ensures) (ap toldImplTypes (c .before .before .before .before .before .before .cursor .given .1))) (c .before .before .put-walked .ensures)
 
--- src/bases.rt:42:1
 returns-2 : tie.Need-returns-2
 returns-2 c = known (chain-refused _ _ _ _ (c .before .before .before .before .impl-types .ensures) (ap toldImplTypes (c .before .before .n .given .1))) (c .put-refusal .ensures _)
 

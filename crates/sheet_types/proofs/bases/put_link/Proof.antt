@@ -12,31 +12,19 @@ use Rattle.sheet_types.proofs.TypeLaws.{link-is}
 use borrow.Author.Needs.{needs}
 use Rattle.sheet_types.proofs.bases.put_link.Statement.{statement}
 use Rattle.sheet_types.proofs.bases.put_link.Tie as tie
-use Rattle.sheet_types.proofs.bases.put_link.Reads as reads
-use Rattle.sheet_types.proofs.bases.put_link.Lts as lts
-use Rattle.emit.proofs.copy_u32.Reads as copy-u32-reads
-use Rattle.emit.proofs.word_at.Reads as word-at-reads
-use Rattle.sheet_trees.proofs.references.put_in_this_file.Reads as put-in-this-file-reads
-use Rattle.sheet_trees.proofs.references.put_reference.Reads as put-reference-reads
-use Rattle.util.proofs.bits.Reads as bits-reads
 
--- src/bases.rt:101:9
 word-at-requires : tie.Need-word-at-requires
 word-at-requires c κs = search needs
 
--- src/bases.rt:102:16
 bits-requires : tie.Need-bits-requires
 bits-requires c κs = search needs
 
--- src/bases.rt:103:9
 put-in-this-file-requires : tie.Need-put-in-this-file-requires
 put-in-this-file-requires c κs = search needs
 
--- src/bases.rt:105:9
 put-reference-requires : tie.Need-put-reference-requires
 put-reference-requires c κs = search needs
 
--- src/bases.rt:107:5
 copy-u32-requires : tie.Need-copy-u32-requires
 copy-u32-requires c κs = search needs
 
@@ -46,11 +34,9 @@ referred c =
     ⊎-elim (λ w. rw (w .5, w .6) (known (here-referred _ _ _ (omega (arith, c .before .bits .ensures, w .0 .taken))) (w .2 .ensures))) (λ w. rw (w .5, w .6) (w .2 .ensures))
     (c .if1 .came)
 
--- src/bases.rt:98:1
 same-length : tie.Need-same-length
 same-length c = c .before .before .copy-u32 .ensures .keeps ∙ referred (c .before .before .before .before) .keeps
 
--- src/bases.rt:98:1
 returns : tie.Need-returns
 returns c =
     known (link-is _ _ (record { at = c .before .before .before .before .before .before .before .before .before .args .link .at; len = c .before .before .before .before .before .before .before .before .before .args .link .len }) (c .before .before .before .before .before .before .word-at .ensures))

@@ -10,10 +10,6 @@ use native.Mathlib.Omega.{arith}
 use borrow.Author.Needs.{needs}
 use Rattle.sheet_types.proofs.bases.put_links.Statement.{statement}
 use Rattle.sheet_types.proofs.bases.put_links.Tie as tie
-use Rattle.sheet_types.proofs.bases.put_links.Reads as reads
-use Rattle.sheet_types.proofs.bases.put_links.Lts as lts
-use Rattle.sheet_types.proofs.bases.put_link.Reads as put-link-reads
-use Rattle.impltypes.proofs.ImplTypeCursor.step.Reads as step-reads
 
 abbrev Inv-loop : tie.InvT-loop
 Inv-loop s lib count out₀ to t₀ c₀ k₀ out t c k = Left (value (linksBytes s lib c₀ count 0)) (put t₀) out₀ (value (linksBytes s lib c₀ count k)) (put t) out × At s lib c₀ count k c
@@ -21,51 +17,39 @@ Inv-loop s lib count out₀ to t₀ c₀ k₀ out t c k = Left (value (linksByte
 abbrev μ-loop : tie.MeasureT-loop
 μ-loop s lib count out₀ to t₀ c₀ k₀ out t c k = count - k
 
--- src/bases.rt:85:5
 loop-holds : tie.Need-loop-holds Inv-loop μ-loop
 loop-holds c = (left-all, at-start _ _ _ _)
 
--- src/bases.rt:86:48
 step-requires : tie.Need-step-requires Inv-loop μ-loop
 step-requires c κs = search needs
 
--- src/bases.rt:86:34
 enum-known-link : tie.Need-enum-known-link Inv-loop μ-loop
 enum-known-link c = search needs
 
--- src/bases.rt:87:13
 enum-told : tie.Need-enum-told Inv-loop μ-loop
 enum-told c = search needs
 
--- src/bases.rt:87:13
 same-length : tie.Need-same-length Inv-loop μ-loop
 same-length c = at-end _ _ _ _ (c .before .before .before .before .before .before .before .pre) _ (c .before .before .before .loop-test .taken) (c .before .before .before .before .loop .inv .1) (tells toldImplTypeStep (c .enum-told .given .1) (c .before .before .step .ensures))
 
--- src/bases.rt:87:13
 returns : tie.Need-returns Inv-loop μ-loop
 returns c = at-end _ _ _ _ (c .before .before .before .before .before .before .before .pre) _ (c .before .before .before .loop-test .taken) (c .before .before .before .before .loop .inv .1) (tells toldImplTypeStep (c .enum-told .given .1) (c .before .before .step .ensures))
 
--- src/bases.rt:89:9
 put-link-requires : tie.Need-put-link-requires Inv-loop μ-loop
 put-link-requires c κs = search needs
 
--- src/bases.rt:91:9
 add-k : tie.Need-add-k Inv-loop μ-loop
 add-k c = omega arith
 
--- src/bases.rt:85:5
 loop-less : tie.Need-loop-less Inv-loop μ-loop
 loop-less c = omega arith
 
--- src/bases.rt:85:5
 loop-again : tie.Need-loop-again Inv-loop μ-loop
 loop-again c = let e = tells toldImplTypeStep (c .before .before .before .before .before .link .given .1) (c .before .before .before .before .before .before .before .step .ensures) in (left-less (c .before .before .before .before .before .before .before .before .before .loop .inv .0) (c .before .before .put-link .ensures) (links-more _ _ _ _ _ (c .before .before .before .before .before .before .before .before .loop-test .taken) (at-place _ _ _ _ (c .before .before .before .before .before .before .before .before .before .before .before .before .pre) _ (c .before .before .before .before .before .before .before .before .loop-test .taken) (c .before .before .before .before .before .before .before .before .before .loop .inv .1) e)), at-next _ _ _ _ (c .before .before .before .before .before .before .before .before .before .before .before .before .pre) _ (c .before .before .before .before .before .before .before .before .loop-test .taken) (c .before .before .before .before .before .before .before .before .before .loop .inv .1) e)
 
--- src/bases.rt:71:1
 same-length-2 : tie.Need-same-length-2 Inv-loop μ-loop
 same-length-2 c = left-none (c .before .loop .inv .0) (links-none _ _ _ _ _ (c .loop-test .left)) .keeps
 
--- src/bases.rt:71:1
 returns-2 : tie.Need-returns-2 Inv-loop μ-loop
 returns-2 c = left-none (c .before .loop .inv .0) (links-none _ _ _ _ _ (c .loop-test .left))
 

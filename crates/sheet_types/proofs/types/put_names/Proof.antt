@@ -3,63 +3,43 @@ use Rattle.emit.specs.Laws.{known, join}
 use borrow.Author.Needs.{needs}
 use Rattle.sheet_types.proofs.types.put_names.Statement.{statement}
 use Rattle.sheet_types.proofs.types.put_names.Tie as tie
-use Rattle.sheet_types.proofs.types.put_names.Reads as reads
-use Rattle.sheet_types.proofs.types.put_names.Lts as lts
-use Rattle.emit.proofs.put_le.Reads as put-le-reads
-use Rattle.emit.proofs.word_at.Reads as word-at-reads
-use Rattle.sheet_trees.proofs.values.put_opt_guid.Reads as put-opt-guid-reads
-use Rattle.sheet_trees.proofs.values.put_opt_name.Reads as put-opt-name-reads
-use Rattle.util.proofs.bits.Reads as bits-reads
 
--- src/types.rt:53:9
 word-at-requires : tie.Need-word-at-requires
 word-at-requires c κs = search needs
 
--- src/types.rt:54:42
 word-at-requires-2 : tie.Need-word-at-requires-2
 word-at-requires-2 c κs = search needs
 
--- src/types.rt:54:9
 put-opt-guid-requires : tie.Need-put-opt-guid-requires
 put-opt-guid-requires c κs = search needs
 
--- src/types.rt:55:42
 word-at-requires-3 : tie.Need-word-at-requires-3
 word-at-requires-3 c κs = search needs
 
--- src/types.rt:55:9
 put-opt-name-requires : tie.Need-put-opt-name-requires
 put-opt-name-requires c κs = search needs
 
--- src/types.rt:56:34
 bits-requires : tie.Need-bits-requires
 bits-requires c κs = search needs
 
--- src/types.rt:56:34
 cast-put-le : tie.Need-cast-put-le
 cast-put-le c = search needs
 
--- src/types.rt:56:9
 put-le-requires : tie.Need-put-le-requires
 put-le-requires c κs = search needs
 
--- src/types.rt:57:26
 bits-requires-2 : tie.Need-bits-requires-2
 bits-requires-2 c κs = search needs
 
--- src/types.rt:57:26
 cast-put-le-2 : tie.Need-cast-put-le-2
 cast-put-le-2 c = search needs
 
--- src/types.rt:57:5
 put-le-requires-2 : tie.Need-put-le-requires-2
 put-le-requires-2 c κs = search needs
 
--- src/types.rt:50:1
 same-length : tie.Need-same-length
 same-length c = search needs
 
--- src/types.rt:50:1
 returns : tie.Need-returns
 returns c = known (names-is _ _ _ (c .before .before .before .before .before .before .before .before .before .before .before .before .before .before .before .before .before .before .before .before .word-at .ensures) (c .before .before .before .before .before .before .before .before .before .before .before .before .before .before .before .before .before .before .before .word-at2 .ensures) (c .before .before .before .before .before .before .before .before .before .before .before .before .before .before .word-at3 .ensures) (c .before .before .before .before .before .before .before .before .bits .ensures) (c .before .before .before .bits2 .ensures)) (join (c .before .before .before .before .before .before .before .before .before .before .before .before .before .before .before .before .before .put-opt-guid .ensures) (join (c .before .before .before .before .before .before .before .before .before .before .before .before .put-opt-name .ensures) (join (c .before .before .before .before .before .before .before .put-le .ensures) (c .before .before .put-le2 .ensures))))
 

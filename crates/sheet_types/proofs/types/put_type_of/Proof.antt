@@ -5,41 +5,28 @@ use mathlib.Core.Path.{ap}
 use borrow.Author.Needs.{needs}
 use Rattle.sheet_types.proofs.types.put_type_of.Statement.{statement}
 use Rattle.sheet_types.proofs.types.put_type_of.Tie as tie
-use Rattle.sheet_types.proofs.types.put_type_of.Reads as reads
-use Rattle.sheet_types.proofs.types.put_type_of.Lts as lts
-use Rattle.emit.proofs.put_refusal.Reads as put-refusal-reads
-use Rattle.sheet_types.proofs.types.put_type.Reads as put-type-reads
-use Rattle.typelib.proofs.TypeLib.typeinfo.Reads as typeinfo-reads
 
--- src/types.rt:23:11
 typeinfo-requires : tie.Need-typeinfo-requires
 typeinfo-requires c κs = search needs
 
--- src/types.rt:24:31
 enum-known-ti : tie.Need-enum-known-ti
 enum-known-ti c = search needs
 
--- src/types.rt:24:38
 put-type-requires : tie.Need-put-type-requires
 put-type-requires c κs = search needs
 
--- src/types.rt:25:33
 enum-known-n : tie.Need-enum-known-n
 enum-known-n c = search needs
 
--- src/types.rt:25:39
 put-refusal-requires : tie.Need-put-refusal-requires
 put-refusal-requires c κs = search needs
 
--- src/types.rt:20:1
 same-length : tie.Need-same-length
 same-length c = search needs
 
--- src/types.rt:20:1
 returns : tie.Need-returns
 returns c = known (type-found _ _ _ _ (c .before .before .before .before .before .before .before .typeinfo .ensures) (ap toldTypeInfo (c .before .before .before .before .before .ti .given .1))) (c .before .before .put-type .ensures)
 
--- src/types.rt:20:1
 returns-2 : tie.Need-returns-2
 returns-2 c = known (type-missing _ _ _ _ (c .before .before .before .before .typeinfo .ensures) (ap toldTypeInfo (c .before .before .n .given .1))) (c .put-refusal .ensures _)
 

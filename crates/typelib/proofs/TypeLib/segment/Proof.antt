@@ -4,71 +4,52 @@ use mathlib.Core.Path.{_∙_, ap}
 use borrow.Author.Needs.{needs}
 use Rattle.typelib.proofs.TypeLib.segment.Statement.{statement}
 use Rattle.typelib.proofs.TypeLib.segment.Tie as tie
-use Rattle.typelib.proofs.TypeLib.segment.Reads as reads
-use Rattle.typelib.proofs.TypeLib.segment.Lts as lts
-use Rattle.typelib.proofs.segment_entry.Reads as segment-entry-reads
 
--- src/lib.rt:121:13
 returns : tie.Need-returns
 returns c = segment-none _ _ _ (c .if1 .taken)
 
--- src/lib.rt:123:18
 cast-at : tie.Need-cast-at
 cast-at c = search needs
 
--- src/lib.rt:123:45
 cast-at-2 : tie.Need-cast-at-2
 cast-at-2 c = search needs
 
--- src/lib.rt:123:40
 mul-at : tie.Need-mul-at
 mul-at c = search needs
 
--- src/lib.rt:123:18
 add-at : tie.Need-add-at
 add-at c = search needs
 
--- src/lib.rt:123:68
 mul-at-2 : tie.Need-mul-at-2
 mul-at-2 c = search needs
 
--- src/lib.rt:123:18
 add-at-2 : tie.Need-add-at-2
 add-at-2 c = search needs
 
--- src/lib.rt:124:22
 add-if2 : tie.Need-add-if2
 add-if2 c = search needs
 
--- src/lib.rt:125:13
 returns-2 : tie.Need-returns-2
 returns-2 c = segment-short _ _ _ (c .before .before .before .if1 .left) (c .if2 .taken)
 
--- src/lib.rt:127:13
 segment-entry-requires : tie.Need-segment-entry-requires
 segment-entry-requires c κs = search needs
 
--- src/lib.rt:131:13
 returns-3 : tie.Need-returns-3
 returns-3 c = segment-some _ _ _ _ (c .before .before .before .before .before .if1 .left) (c .before .before .if2 .left) (segment-offset _ (c .if3 .taken) ∙ ap segmentPlace (c .before .segment-entry .ensures))
 
--- src/lib.rt:134:13
 returns-4 : tie.Need-returns-4
 returns-4 c = segment-some _ _ _ _ (c .before .before .before .before .before .before .if1 .left) (c .before .before .before .if2 .left) (segment-empty _ (c .before .if3 .left) (c .if4 .taken) ∙ ap segmentPlace (c .before .before .segment-entry .ensures))
 
--- src/lib.rt:137:13
 returns-5 : tie.Need-returns-5
 returns-5 c = segment-some _ _ _ _ (c .before .before .before .before .before .before .before .if1 .left) (c .before .before .before .before .if2 .left) (segment-length _ (c .before .before .if3 .left) (c .before .if4 .left) (c .if5 .taken) ∙ ap segmentPlace (c .before .before .before .segment-entry .ensures))
 
--- src/lib.rt:140:17
 cast-t11 : tie.Need-cast-t11
 cast-t11 c = search needs
 
--- src/lib.rt:141:18
 cast-t12 : tie.Need-cast-t12
 cast-t12 c = search needs
 
--- src/lib.rt:117:5
 returns-6 : tie.Need-returns-6
 returns-6 c = segment-some _ _ _ _ (c .before .before .before .before .before .before .before .if1 .left) (c .before .before .before .before .if2 .left) (segment-there _ (c .before .before .if3 .left) (c .before .if4 .left) (c .if5 .left) ∙ ap segmentPlace (c .before .before .before .segment-entry .ensures))
 

@@ -7,27 +7,19 @@ use Rattle.typelib.specs.TableLaws.{small}
 use borrow.Author.Needs.{needs}
 use Rattle.typelib.proofs.TypeLib.table.Statement.{statement}
 use Rattle.typelib.proofs.TypeLib.table.Tie as tie
-use Rattle.typelib.proofs.TypeLib.table.Reads as reads
-use Rattle.typelib.proofs.TypeLib.table.Lts as lts
-use Rattle.typelib.proofs.TypeLib.segment.Reads as segment-reads
 
--- src/lib.rt:149:15
 segment-requires : tie.Need-segment-requires
 segment-requires c κs = search needs
 
--- src/lib.rt:150:32
 enum-known-place : tie.Need-enum-known-place
 enum-known-place c = search needs
 
--- src/lib.rt:151:40
 enum-told : tie.Need-enum-told
 enum-told c = search needs
 
--- src/lib.rt:146:5
 returns : tie.Need-returns
 returns c = let e = tells toldPlace (c .before .place .given .1) (c .before .before .before .segment .ensures) in let h = small _ _ _ _ e in (ap tableOf e, omega arith)
 
--- src/lib.rt:146:5
 returns-2 : tie.Need-returns-2
 returns-2 c = (ap tableOf (tells toldPlace (c .enum-told .given .1) (c .before .before .segment .ensures)), omega arith)
 
