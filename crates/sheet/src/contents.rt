@@ -1,7 +1,6 @@
 // The contents and the bodies of a sheet. The contents are the count of types and the length of each body; a length is known
 // once its body is emitted, and is put into the contents then.
 use sheet_trees::values;
-use sheet_types::types;
 use typelib::TypeLib;
 ghost use mathlib.Core.Path.{_≡_};
 ghost use Prim.Native.Nat.{_+_, _*_, _≤_};
@@ -55,7 +54,7 @@ fn put_types(s: &[u8], lib: TypeLib, out: &mut [u8], to: usize) -> usize
         if emit::PAST < t {
             return t;
         }
-        let end = types::put_type_of(s, lib, i, out, t);
+        let end = sheet_types::put_type_of(s, lib, i, out, t);
         patch(t, end, TYPE_LENGTHS + 4 * i, out);
         t = end;
         i += 1;

@@ -1,8 +1,8 @@
 use Rattle.sheet_types.proofs.TypeLaws.{head-is}
 use Rattle.emit.specs.Laws.{known, join}
 use borrow.Author.Needs.{needs}
-use Rattle.sheet_types.proofs.types.put_head.Statement.{statement}
-use Rattle.sheet_types.proofs.types.put_head.Tie as tie
+use Rattle.sheet_types.proofs.put_head.Statement.{statement}
+use Rattle.sheet_types.proofs.put_head.Tie as tie
 
 put-le-requires : tie.Need-put-le-requires
 put-le-requires c κs = search needs

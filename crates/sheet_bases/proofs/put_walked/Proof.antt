@@ -1,11 +1,11 @@
 use mathlib.Core.Path.{sym, _∙_}
-use Rattle.sheet_types.proofs.TypeLaws.{walked-is, walked-refused}
+use Rattle.sheet_bases.proofs.BaseLaws.{walked-is, walked-refused}
 use Rattle.emit.specs.Laws.{known, join}
 use Rattle.impltypes.specs.Chain.{toldWalk}
 use mathlib.Core.Path.{ap}
 use borrow.Author.Needs.{needs}
-use Rattle.sheet_types.proofs.bases.put_walked.Statement.{statement}
-use Rattle.sheet_types.proofs.bases.put_walked.Tie as tie
+use Rattle.sheet_bases.proofs.put_walked.Statement.{statement}
+use Rattle.sheet_bases.proofs.put_walked.Tie as tie
 
 enum-known-walk : tie.Need-enum-known-walk
 enum-known-walk c = search needs

@@ -1,10 +1,10 @@
-use Rattle.sheet_types.proofs.TypeLaws.{chain-is, chain-refused}
+use Rattle.sheet_bases.proofs.BaseLaws.{chain-is, chain-refused}
 use Rattle.emit.specs.Laws.{known}
 use Rattle.impltypes.specs.Chain.{toldImplTypes}
 use mathlib.Core.Path.{ap}
 use borrow.Author.Needs.{needs}
-use Rattle.sheet_types.proofs.bases.put_chain.Statement.{statement}
-use Rattle.sheet_types.proofs.bases.put_chain.Tie as tie
+use Rattle.sheet_bases.proofs.put_chain.Statement.{statement}
+use Rattle.sheet_bases.proofs.put_chain.Tie as tie
 
 impl-types-requires : tie.Need-impl-types-requires
 impl-types-requires c κs = search needs

@@ -1,10 +1,10 @@
-use Rattle.sheet_types.proofs.TypeLaws.{base-parent, base-chain, base-aliased, base-absent}
+use Rattle.sheet_bases.proofs.BaseLaws.{base-parent, base-chain, base-aliased, base-absent}
 use Rattle.emit.specs.Laws.{known, skip}
 use Rattle.description.specs.Description.{baseShapeOf}
 use mathlib.Core.Path.{ap}
 use borrow.Author.Needs.{needs}
-use Rattle.sheet_types.proofs.bases.put_base.Statement.{statement}
-use Rattle.sheet_types.proofs.bases.put_base.Tie as tie
+use Rattle.sheet_bases.proofs.put_base.Statement.{statement}
+use Rattle.sheet_bases.proofs.put_base.Tie as tie
 
 word-at-requires : tie.Need-word-at-requires
 word-at-requires c κs = search needs

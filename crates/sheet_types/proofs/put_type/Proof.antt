@@ -1,8 +1,8 @@
 use Rattle.sheet_types.proofs.TypeLaws.{type-is}
 use Rattle.emit.specs.Laws.{known, join}
 use borrow.Author.Needs.{needs}
-use Rattle.sheet_types.proofs.types.put_type.Statement.{statement}
-use Rattle.sheet_types.proofs.types.put_type.Tie as tie
+use Rattle.sheet_types.proofs.put_type.Statement.{statement}
+use Rattle.sheet_types.proofs.put_type.Tie as tie
 
 word-at-requires : tie.Need-word-at-requires
 word-at-requires c κs = search needs

@@ -1,8 +1,8 @@
 use Rattle.sheet_types.proofs.TypeLaws.{names-is}
 use Rattle.emit.specs.Laws.{known, join}
 use borrow.Author.Needs.{needs}
-use Rattle.sheet_types.proofs.types.put_names.Statement.{statement}
-use Rattle.sheet_types.proofs.types.put_names.Tie as tie
+use Rattle.sheet_types.proofs.put_names.Statement.{statement}
+use Rattle.sheet_types.proofs.put_names.Tie as tie
 
 word-at-requires : tie.Need-word-at-requires
 word-at-requires c κs = search needs

@@ -15,7 +15,7 @@ ghost use Rattle.description.specs.Format.{encode, list};
 ghost use Rattle.description.specs.Sheet.{edition-one, u32, implType};
 ghost use Rattle.describe.specs.Types.{implTypeAt, implTypesAt};
 ghost use Rattle.emit.specs.Emit.{Emitted, put};
-ghost use Rattle.sheet_types.specs.Types.{baseEmitted, chainEmitted, linksBytes};
+ghost use Rattle.sheet_bases.specs.Bases.{baseEmitted, chainEmitted, linksBytes};
 
 // The base of a type of that kind.
 pub fn put_base(

@@ -3,8 +3,8 @@ use Rattle.emit.specs.Laws.{known}
 use Rattle.typelib.specs.Told.{toldTypeInfo}
 use mathlib.Core.Path.{ap}
 use borrow.Author.Needs.{needs}
-use Rattle.sheet_types.proofs.types.put_type_of.Statement.{statement}
-use Rattle.sheet_types.proofs.types.put_type_of.Tie as tie
+use Rattle.sheet_types.proofs.put_type_of.Statement.{statement}
+use Rattle.sheet_types.proofs.put_type_of.Tie as tie
 
 typeinfo-requires : tie.Need-typeinfo-requires
 typeinfo-requires c κs = search needs

@@ -8,10 +8,10 @@ use Rattle.description.specs.Sheet.{edition-one, reference}
 use Rattle.describe.specs.References.{referenceOf}
 use Rattle.emit.specs.Emit.{Emitted, put}
 use Rattle.emit.specs.Laws.{known, join}
-use Rattle.sheet_types.proofs.TypeLaws.{link-is}
+use Rattle.sheet_bases.proofs.BaseLaws.{link-is}
 use borrow.Author.Needs.{needs}
-use Rattle.sheet_types.proofs.bases.put_link.Statement.{statement}
-use Rattle.sheet_types.proofs.bases.put_link.Tie as tie
+use Rattle.sheet_bases.proofs.put_link.Statement.{statement}
+use Rattle.sheet_bases.proofs.put_link.Tie as tie
 
 word-at-requires : tie.Need-word-at-requires
 word-at-requires c κs = search needs

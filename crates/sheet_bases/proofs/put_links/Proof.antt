@@ -1,5 +1,5 @@
-use Rattle.sheet_types.proofs.TypeLaws.{At, at-start, at-next, at-place, at-end, links-more, links-none}
-use Rattle.sheet_types.specs.Types.{linksBytes}
+use Rattle.sheet_bases.proofs.BaseLaws.{At, at-start, at-next, at-place, at-end, links-more, links-none}
+use Rattle.sheet_bases.specs.Bases.{linksBytes}
 use Rattle.emit.specs.Laws.{Left, left-all, left-less, left-none}
 use Rattle.emit.specs.Emit.{put}
 use Rattle.impltypes.specs.Chain.{toldImplTypeStep}
@@ -8,8 +8,8 @@ use Rattle.records.specs.Answer.{value}
 use Prim.Native.Nat.{_-_}
 use native.Mathlib.Omega.{arith}
 use borrow.Author.Needs.{needs}
-use Rattle.sheet_types.proofs.bases.put_links.Statement.{statement}
-use Rattle.sheet_types.proofs.bases.put_links.Tie as tie
+use Rattle.sheet_bases.proofs.put_links.Statement.{statement}
+use Rattle.sheet_bases.proofs.put_links.Tie as tie
 
 abbrev Inv-loop : tie.InvT-loop
 Inv-loop s lib count out₀ to t₀ c₀ k₀ out t c k = Left (value (linksBytes s lib c₀ count 0)) (put t₀) out₀ (value (linksBytes s lib c₀ count k)) (put t) out × At s lib c₀ count k c

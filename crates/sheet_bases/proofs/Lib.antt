@@ -1,0 +1,2 @@
+-- Laws that the emitters cite.
+pub mod BaseLaws

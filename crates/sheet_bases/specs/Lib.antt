@@ -1,0 +1,2 @@
+-- The bytes of what a type is based on.
+pub mod Bases
