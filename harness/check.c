@@ -6,24 +6,15 @@
 
 /* ---- counts ---- */
 
-static size_t count_functions(const library *l, msft_place type)
-{
-    msft_cursor at = functions_of(l, type);
-    msft_place record;
-    size_t count = 0;
-    while (next_function(l, &at, &record))
-        count++;
-    return count;
-}
+typedef bool next_member(const library *l, msft_cursor *c, msft_place *record);
 
-static size_t count_variables(const library *l, msft_place type)
+static size_t count(const library *l, msft_cursor at, next_member *next)
 {
-    msft_cursor at = variables_of(l, type);
     msft_place record;
-    size_t count = 0;
-    while (next_variable(l, &at, &record))
-        count++;
-    return count;
+    size_t yielded = 0;
+    while (next(l, &at, &record))
+        yielded++;
+    return yielded;
 }
 
 static void say_read(const library *l, const sheet *s)
@@ -34,8 +25,8 @@ static void say_read(const library *l, const sheet *s)
     for (size_t i = 0; i < types; i++) {
         if (!type_at(l, i, &type))
             continue;
-        functions += count_functions(l, type);
-        variables += count_variables(l, type);
+        functions += count(l, functions_of(l, type), next_function);
+        variables += count(l, variables_of(l, type), next_variable);
     }
     printf("%s: read: %zu types, %zu functions, %zu variables; sheet of %zu bytes\n", l->path,
            types, functions, variables, s->len);
