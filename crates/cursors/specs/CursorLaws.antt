@@ -25,7 +25,7 @@ use Rattle.cursors.specs.declared.iterators.NameCursor.{NameCursor}
 use Rattle.records.specs.declared.name.NameEntry.{NameEntry}
 use Rattle.cursors.specs.declared.iterators.TypeInfoCursor.{TypeInfoCursor}
 use Rattle.typelib.specs.TableLaws.{lent-fits, record-start, record-inside}
-use Rattle.typelib.specs.Tables.{lent, segmentPlace, segmentOf}
+use Rattle.typelib.specs.Tables.{lent}
 use Rattle.typelib.specs.TypeInfos.{typeinfoOf}
 use Rattle.cursors.specs.Cursors.{funcStepFrom, funcStep, varStepFrom, varStep, paramStepFrom, paramStep, guidStepFrom, guidStep, importStepFrom, importStep, impFileStepFrom, impFileStep}
 use Rattle.cursors.specs.Cursors.{Step, yielded, ended, sizeAt, recordAt, blockFrom, blockWith, skip, fixedAt, paramCursor, paramAt, impFileEntry, typeinfoStepFrom, typeinfoStep, nameEntryFrom, nameEntry, NameYield, entry, over, nameStepFrom, nameStep}

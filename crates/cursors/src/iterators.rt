@@ -30,7 +30,7 @@ ghost use Prim.Native.Nat.{_+_, _-_, _^_, _≤_, _<_};
 ghost use lib.ListN.{length};
 ghost use Rattle.records.specs.Told.{toldPlace, toldUsize};
 ghost use Rattle.cursors.specs.Cursors.{recordAt, funcStep, varStep, blockWith, funcCursor, funcsOf, skip, varsFrom, varCursor, varsOf, fixedAt, guidStep, importStep, paramCursor, paramsOf, paramAt, paramStep, impFileEntry, impFileStep, guidsOf, importsOf, impFilesOf, typeinfoStep, nameEntryFrom, nameEntry, nameStep, namesOf};
-ghost use Rattle.typelib.specs.Tables.{lent, segmentOf};
+ghost use Rattle.typelib.specs.Tables.{lent};
 ghost use Rattle.cursors.specs.Told.{toldFuncs, toldFuncStep, toldVars, toldVarStep, toldParams, toldParamStep, toldGuidStep, toldImportStep, toldImpFileStep, toldTypeInfoStep, toldNameStep, toldNameEntry, toldBlock, toldSkip};
 
 pub struct FuncCursor {

@@ -15,11 +15,12 @@ use mir.ValLaws.{toZ-ofZ}
 use Rattle.util.specs.Read.{cond-elim}
 use Rattle.records.specs.declared.answer.Place.{Place}
 use Rattle.records.specs.Answer.{Answer, value, refused, map, bind}
+use Rattle.records.specs.Layout.{sizeOf}
 use Rattle.records.specs.RecordLaws.{held-elim}
 use Rattle.records.specs.Record.{limit, held, recordPlace}
 use Rattle.typelib.specs.declared.Segment.{Segment}
 use Rattle.typelib.specs.declared.TypeLib.{TypeLib}
-use Rattle.typelib.specs.Header.{segmentAt}
+use Rattle.typelib.specs.Header.{header, signature, word, directoryAt, segmentAt, libraryOf, parseOf}
 use Rattle.typelib.specs.Tables.{lent, segmentPlace, entryAt, segmentOf, inTable, placeIn, tablePlace}
 
 -- ---- over-long bytes
@@ -202,3 +203,33 @@ small s lib k p =
       start = omega (arith, leb-false 0x80000000 (e .offset) h1);
       size = omega (arith, leb-false 0x80000000 (e .length) h2);
     })))))
+
+-- ---- the segments of a library that was parsed
+
+-- its directory is whole
+record Whole (s : List ℕ) (lib : TypeLib) : Type 0 where
+  is : lib ≡ libraryOf s
+  inside : directoryAt s + 240 ≤ length s
+
+whole : (s : List ℕ) (lib : TypeLib) → value lib ≡ parseOf s → Whole s lib
+unfolding parseOf
+whole s lib =
+    let P : Answer TypeLib → Type 0 = λ a. value lib ≡ a → Whole s lib in
+    let no : (n : ℕ) → P (refused n) = λ n e. let z : _≡_ {A = ℕ} 0 1 = cc in absurd (omega arith) in
+    cond-elim P (ltb limit (length s)) _ _ (λ _. no 1) (λ _.
+    cond-elim P (ltb (length s) (sizeOf header)) _ _ (λ _. no 2) (λ _.
+    cond-elim P (eqb (word "magic1" s) signature) _ _
+    (λ _.
+    cond-elim P (leb 0x80000000 (word "nrtypeinfos" s)) _ _ (λ _. no 4) (λ _.
+    cond-elim P (ltb (length s) (directoryAt s + 240)) _ _ (λ _. no 5) (λ d e.
+    let q : lib ≡ libraryOf s = cc in
+    record { is = q; inside = ltb-false (length s) (directoryAt s + 240) d })))
+    (λ _. no 3)))
+
+-- segment k is the k-th entry of the directory that `parse` tested, as the Rust has them all read there
+pub parsed-segment : (s : List ℕ) (lib : TypeLib) (k : ℕ) → value lib ≡ parseOf s → k < 15
+    → segmentPlace (segmentAt s (directoryAt s + 16 * k)) ≡ segmentOf s lib k
+unfolding libraryOf
+parsed-segment s lib k e h =
+    let w = whole s lib e in
+    rw (w .is) (segment-some s (libraryOf s) k _ h (omega (arith, w .inside)) refl)
