@@ -3,12 +3,14 @@
 use mathlib.Core.Path.{_≡_}
 use mathlib.Core.Bool.{cond}
 use mathlib.Core.List.{List, _++_}
-use Prim.Native.Nat.{ℕ, suc, _+_, _-_, _%_, _≤_, min, max}
+use Prim.Native.Nat.{ℕ, suc, _+_, _*_, _-_, _%_, _≤_, min, max}
 use lib.Dec.{leb}
-use lib.ListN.{length}
+use lib.ListN.{length, take}
 use lib.Seq.{sets}
 use Rattle.records.specs.Answer.{Answer, value, refused}
-use Rattle.records.specs.Record.{limit}
+use Rattle.records.specs.declared.answer.Place.{Place}
+use Rattle.records.specs.Record.{limit, partOf}
+use Rattle.description.specs.Format.{leBytes}
 use Rattle.description.specs.Description.{Bytes}
 
 -- x, and y behind it unless x is a refusal
@@ -42,9 +44,11 @@ moved (At p) (value bs) = At (advance p (length bs))
 moved (At p) (refused n) = Refused n
 moved (Refused m) x = Refused m
 
--- what it leaves in the output, where nothing was refused and there is room for the bytes
+-- What it leaves in the output, where nothing was refused and there is room for the bytes: they stand at its place, behind what stood
+-- before it. What stands behind them is left to the emitter, which may store more than it emits: the next one goes over it, and a
+-- sheet ends with the output that its emitters are lent.
 abbrev pub Laid : Put → Answer Bytes → List ℕ → List ℕ → Type 0
-Laid (At p) (value bs) o o′ = p + length bs ≤ limit → p + length bs ≤ length o → o′ ≡ sets o p bs
+Laid (At p) (value bs) o o′ = p + length bs ≤ limit → p + length bs ≤ length o → take (p + length bs) o′ ≡ take p o ++ bs
 Laid (At p) (refused n) o o′ = Unit {0}
 Laid (Refused m) x o o′ = Unit {0}
 
@@ -53,3 +57,17 @@ pub record Emitted (x : Answer Bytes) (t : Put) (o : List ℕ) (r : Put) (o′ :
   pub moves : r ≡ moved t x
   pub lays : Laid t x o o′
   pub keeps : length o′ ≡ length o
+
+-- bytes that went over what stood at the place t, where there is room for them; nothing else of the output changed
+pub record Overwritten (bs : Bytes) (t : Put) (o o′ : List ℕ) : Type 0 where
+  pub over : (p : ℕ) → t ≡ At p → p + length bs ≤ limit → p + length bs ≤ length o → o′ ≡ sets o p bs
+  pub keeps : length o′ ≡ length o
+
+-- x was emitted, or r is 0 and nothing was done
+pub record Tried (x : Answer Bytes) (to : ℕ) (o : List ℕ) (r : ℕ) (o′ : List ℕ) : Type 0 where
+  pub none : r ≡ 0 → o′ ≡ o
+  pub done : (r ≡ 0 → ⊥) → Emitted x (put to) o (put r) o′
+
+-- byte 1, the length in one byte and the bytes at a place of the library
+unfoldable pub countedPart : List ℕ → Place → Answer Bytes
+countedPart s p = value (leBytes 2 (1 + 256 * (length (partOf s (value p)) % 256))) ▸ value (partOf s (value p))

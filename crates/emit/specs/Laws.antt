@@ -1,20 +1,21 @@
 -- The laws of emitters. Assumes nothing.
-use mathlib.Core.Path.{_≡_, refl, sym, ap, _∙_}
-use mathlib.Core.List.{List, [], _∷_, _++_, append-nil}
+use mathlib.Core.Path.{_≡_, refl, sym, ap, ap₂, _∙_}
+use mathlib.Core.List.{List, [], _∷_, _++_, append-nil, append-assoc}
 use Prim.Native.Nat.{ℕ, zero, suc, _+_, _*_, _^_, _-_, _/_, _%_, _≤_, _<_, min, max}
 use native.Mathlib.Nat.{zero-add, add-zero, add-suc, suc-add, pow-succ', mul-assoc}
 use native.Mathlib.Omega.{arith}
 use lib.Dec.{leb}
 use borrow.Author.Tests.{le-leb, lt-leb, leb-true, leb-false}
-use lib.ListN.{length, getD, set, drop, take, length-append, length-take, drop-of-length-le}
+use lib.ListN.{length, getD, set, drop, take, length-set, length-append, length-drop, take-append-drop, drop-of-length-le}
 use native.Mathlib.Numerals.{add-one}
-use lib.Seq.{drop-cons, sets, length-sets, sets-eq, set-out, set-set, set-comm, slice, slice-cons}
+use lib.Seq.{drop-cons, sets, length-sets, sets-eq, set-append-left, take-all, take-set-lt, take-at, drop-at, drop-drop, take-add, length-take-le}
 use Rattle.util.specs.Read.{read, orZero, cond-elim, read-none}
-use Rattle.records.specs.Answer.{Answer, value, refused, map}
-use Rattle.records.specs.Record.{limit}
+use Rattle.records.specs.Answer.{Answer, value, refused}
+use Rattle.records.specs.declared.answer.Place.{Place}
+use Rattle.records.specs.Record.{limit, partOf}
 use Rattle.description.specs.Description.{Bytes}
-use Rattle.description.specs.Format.{leBytes}
-use Rattle.emit.specs.Emit.{_▸_, Put, At, Refused, past, put, advance, moved, Laid, Emitted}
+use Rattle.description.specs.Format.{leBytes, length-leBytes}
+use Rattle.emit.specs.Emit.{_▸_, Put, At, Refused, past, put, advance, moved, Laid, Emitted, Overwritten, Tried, countedPart}
 
 -- ---- runs of stores
 
@@ -24,37 +25,33 @@ sets-append (x ∷ xs) ys l i =
     sets-append xs ys (set l i x) (suc i)
     ∙ ap (λ (k : ℕ). sets (sets (set l i x) (suc i) xs) k ys) (suc-add i (length xs) ∙ sym (add-suc i (length xs)))
 
--- a store before a run, or after it
-pub set-sets : (xs l : List ℕ) (i j a : ℕ) → j < i → sets (set l j a) i xs ≡ set (sets l i xs) j a
-set-sets [] l i j a h = refl
-set-sets (x ∷ xs) l i j a h =
-    ap (λ (k : List ℕ). sets k (suc i) xs) (set-comm l j i a x (λ e. omega (arith, e)))
-    ∙ set-sets xs (set l i x) (suc i) j a (omega arith)
+-- a run inside the first n
+pub take-sets : (bs l : List ℕ) (n i : ℕ) → i + length bs ≤ n → take n (sets l i bs) ≡ sets (take n l) i bs
+take-sets [] l n i h = refl
+take-sets (b ∷ bs) l n i h = take-sets bs (set l i b) n (suc i) (omega arith) ∙ ap (λ (k : List ℕ). sets k (suc i) bs) (take-set-lt n l i b (omega arith))
 
--- two runs of which the first ends by the start of the second, in either order
-pub sets-comm : (xs ys l : List ℕ) (i j : ℕ) → i + length xs ≤ j → sets (sets l i xs) j ys ≡ sets (sets l j ys) i xs
-sets-comm [] ys l i j h = refl
-sets-comm (x ∷ xs) ys l i j h =
-    sets-comm xs ys (set l i x) (suc i) j (omega arith)
-    ∙ ap (λ (k : List ℕ). sets k (suc i) xs) (set-sets ys l j i x (omega arith))
+-- a run, and what stands before it
+pub sets-front : (bs l : List ℕ) (i : ℕ) → i + length bs ≤ length l → take (i + length bs) (sets l i bs) ≡ take i l ++ bs
+sets-front bs l i h =
+    let n : length (take i l ++ bs) ≡ i + length bs = length-append (take i l) bs ∙ ap (λ k. k + length bs) (length-take-le i l (omega arith)) in
+    ap (take (i + length bs)) (sets-eq bs l i h)
+    ∙ take-at (take i l ++ bs) (drop (i + length bs) l) (i + length bs) n
 
--- a run over another of the same length
-pub sets-over : (xs ys l : List ℕ) (i : ℕ) → length xs ≡ length ys → sets (sets l i xs) i ys ≡ sets l i ys
-sets-over [] [] l i h = refl
-sets-over [] (y ∷ ys) l i h = absurd (omega (arith, h))
-sets-over (x ∷ xs) [] l i h = absurd (omega (arith, h))
-sets-over (x ∷ xs) (y ∷ ys) l i h =
-    ap (λ (k : List ℕ). sets k (suc i) ys)
-    (sym (set-sets xs (set l i x) (suc i) i y (omega arith)) ∙ ap (λ (k : List ℕ). sets k (suc i) xs) (set-set l i x y))
-    ∙ sets-over xs ys (set l i y) (suc i) (omega (arith, h))
+-- a run inside the first of two lists
+pub sets-append-front : (bs f l : List ℕ) (i : ℕ) → i + length bs ≤ length f → sets (f ++ l) i bs ≡ sets f i bs ++ l
+sets-append-front [] f l i h = refl
+sets-append-front (b ∷ bs) f l i h =
+    ap (λ (k : List ℕ). sets k (suc i) bs) (set-append-left f l i b (omega arith)) ∙ sets-append-front bs (set f i b) l (suc i) (simp length-set (omega arith))
 
--- the same where more was stored behind the other
-pub sets-under : (xs ys zs l : List ℕ) (i : ℕ) → length xs ≡ length ys → sets (sets l i (xs ++ zs)) i ys ≡ sets l i (ys ++ zs)
-sets-under xs ys zs l i h =
-    ap (λ (k : List ℕ). sets k i ys) (sets-append xs zs l i ∙ ap (λ (n : ℕ). sets (sets l i xs) (i + n) zs) h)
-    ∙ sym (sets-comm ys zs (sets l i xs) i (i + length ys) (omega arith))
-    ∙ ap (λ (k : List ℕ). sets k (i + length ys) zs) (sets-over xs ys l i h)
-    ∙ sym (sets-append ys zs l i)
+-- a run over bytes that stand behind the first i
+pub sets-under : (f a b c : List ℕ) (i : ℕ) → length f ≡ i → length a ≡ length b → sets (f ++ (a ++ c)) i b ≡ f ++ (b ++ c)
+sets-under f a b c i h e =
+    let n : length (f ++ (a ++ c)) ≡ i + (length b + length c) = length-append f (a ++ c) ∙ ap (λ k. k + length (a ++ c)) h ∙ ap (λ k. i + k) (length-append a c ∙ ap (λ k. k + length c) e) in
+    let q : length (f ++ a) ≡ i + length b = length-append f a ∙ ap (λ k. k + length a) h ∙ ap (λ k. i + k) e in
+    sets-eq b (f ++ (a ++ c)) i (omega (arith, n))
+    ∙ ap₂ (λ (x y : List ℕ). (x ++ b) ++ y) (take-at f (a ++ c) i h)
+    (ap (drop (i + length b)) (sym (append-assoc f a c)) ∙ drop-at (f ++ a) c (i + length b) q)
+    ∙ append-assoc f b c
 
 -- ---- places
 
@@ -84,7 +81,7 @@ advance-past p n h = omega arith
 
 -- nothing is emitted
 pub skip : (t : Put) (o : List ℕ) → Emitted (value []) t o t o
-skip (At p) o = record { moves = ap At (sym (advance-none p)); lays = λ h k. refl; keeps = refl }
+skip (At p) o = record { moves = ap At (sym (advance-none p)); lays = λ h k. rw (add-zero p) (sym (append-nil (take p o))); keeps = refl }
 skip (Refused m) o = record { moves = refl; lays = tt; keeps = refl }
 
 pub moved-join : (x y : Answer Bytes) (t : Put) → moved (moved t x) y ≡ moved t (x ▸ y)
@@ -100,27 +97,34 @@ pub join : {x y : Answer Bytes} {t s r : Put} {o o₁ o₂ : List ℕ} → Emitt
 join {x} {y} {t} {s} {r} {o} {o₁} {o₂} a b =
     record {
       moves = b .moves ∙ ap (λ (u : Put). moved u y) (a .moves) ∙ moved-join x y t;
-      lays = lays x y t (a .lays) (rw (a .moves) at (b .lays));
+      lays = lays x y t (a .keeps) (a .lays) (rw (a .moves) at (b .lays));
       keeps = b .keeps ∙ a .keeps;
     }
   where
-    lays : (x y : Answer Bytes) (t : Put) → Laid t x o o₁ → Laid (moved t x) y o₁ o₂ → Laid t (x ▸ y) o o₂
-    lays (value a) (value b) (At p) f g = λ h k.
-        let h′ : p + length a + length b ≤ limit = omega (arith, h, length-append a b) in
-        let k′ : p + length a + length b ≤ length o = omega (arith, k, length-append a b) in
-        let q : advance p (length a) ≡ p + length a = advance-within p (length a) (omega arith) in
-        let e : o₁ ≡ sets o p a = f (omega arith) (omega arith) in
-        let l : length o₁ ≡ length o = ap length e ∙ length-sets o p a in
-        g (rw q h′) (rw q (omega (arith, k′, l))) ∙ rw (q, e) (sym (sets-append a b o p))
-    lays (value a) (refused n) (At p) f g = tt
-    lays (refused n) y (At p) f g = tt
-    lays (value a) (value b) (Refused m) f g = tt
-    lays (value a) (refused n) (Refused m) f g = tt
-    lays (refused n) y (Refused m) f g = tt
+    lays : (x y : Answer Bytes) (t : Put) → length o₁ ≡ length o → Laid t x o o₁ → Laid (moved t x) y o₁ o₂ → Laid t (x ▸ y) o o₂
+    lays (value a) (value b) (At p) l f g = λ h k.
+        let n : length (a ++ b) ≡ length a + length b = length-append a b in
+        let q : advance p (length a) ≡ p + length a = advance-within p (length a) (omega (arith, n)) in
+        let e : p + length (a ++ b) ≡ p + length a + length b = omega (arith, n) in
+        ap (λ (m : ℕ). take m o₂) e
+        ∙ (rw q at g) (omega (arith, n)) (omega (arith, n))
+        ∙ ap (λ (z : List ℕ). z ++ b) (f (omega (arith, n)) (omega (arith, n)))
+        ∙ append-assoc (take p o) a b
+    lays (value a) (refused n) (At p) l f g = tt
+    lays (refused n) y (At p) l f g = tt
+    lays (value a) (value b) (Refused m) l f g = tt
+    lays (value a) (refused n) (Refused m) l f g = tt
+    lays (refused n) y (Refused m) l f g = tt
 
 -- what is emitted, by another name
 pub known : {x y : Answer Bytes} {t r : Put} {o o′ : List ℕ} → x ≡ y → Emitted x t o r o′ → Emitted y t o r o′
 known e h = rw e at h
+
+-- bytes that fill the output are all that it holds
+pub filled : {bs o o′ : List ℕ} {r : Put} → Emitted (value bs) (At 0) o r o′ → length bs ≤ limit → length o ≡ length bs → o′ ≡ bs
+filled {bs} {o} {o′} w k e =
+    let n : length o′ ≡ 0 + length bs = w .keeps ∙ e ∙ sym (zero-add (length bs)) in
+    sym (take-all (0 + length bs) o′ (omega (arith, n))) ∙ w .lays (omega (arith, k)) (omega (arith, e))
 
 -- ---- emitters that look at the place
 
@@ -153,7 +157,7 @@ pub stored : {o o′ bs : List ℕ} (p : ℕ) {n : ℕ} → p + n ≤ past → l
 stored {o} {o′} {bs} p {n} f g h =
     record {
       moves = ap put (advance-to p n f ∙ ap (advance p) (sym g)) ∙ put-moved p bs;
-      lays = put-elim (λ t. Laid t (value bs) o o′) p (λ _ k l. h) (λ _. tt);
+      lays = put-elim (λ t. Laid t (value bs) o o′) p (λ _ k l. ap (take (p + length bs)) h ∙ sets-front bs o p l) (λ _. tt);
       keeps = ap length h ∙ length-sets o p bs;
     }
 
@@ -175,6 +179,75 @@ stopped-past {o} {bs} p {n} {q} f g h =
       keeps = refl;
     }
 
+-- more bytes than those that are emitted are stored at p
+pub stored-more : {o o′ bs : List ℕ} (more : List ℕ) (p : ℕ) {n : ℕ} → p + n ≤ past → length bs ≡ n → p + length (bs ++ more) ≤ length o
+    → o′ ≡ sets o p (bs ++ more) → Emitted (value bs) (put p) o (put (p + n)) o′
+stored-more {o} {o′} {bs} more p {n} f g k h =
+    record {
+      moves = ap put (advance-to p n f ∙ ap (advance p) (sym g)) ∙ put-moved p bs;
+      lays = put-elim (λ t. Laid t (value bs) o o′) p (λ _ _ _. front) (λ _. tt);
+      keeps = ap length h ∙ length-sets o p (bs ++ more);
+    }
+  where
+    front : take (p + length bs) o′ ≡ take p o ++ bs
+    front =
+        let m : length (bs ++ more) ≡ length bs + length more = length-append bs more in
+        let e : length (sets o p bs) ≡ length o = length-sets o p bs in
+        let a : o′ ≡ sets (sets o p bs) (p + length bs) more = h ∙ sets-append bs more o p in
+        ap (take (p + length bs)) (a ∙ sets-eq more (sets o p bs) (p + length bs) (omega (arith, m, e)))
+        ∙ ap (take (p + length bs)) (append-assoc (take (p + length bs) (sets o p bs)) more (drop (p + length bs + length more) (sets o p bs)))
+        ∙ take-at (take (p + length bs) (sets o p bs)) (more ++ drop (p + length bs + length more) (sets o p bs)) (p + length bs) (length-take-le (p + length bs) (sets o p bs) (omega (arith, m, e)))
+        ∙ sets-front bs o p (omega (arith, m))
+
+-- k bytes are stored for a part of the library that has no more
+pub part-stored : (s : List ℕ) (q : Place) (k p : ℕ) {o o′ : List ℕ} → q .len ≤ k → p + q .len ≤ past → q .at + k ≤ length s → p + k ≤ length o
+    → o′ ≡ sets o p (take (q .at + k - q .at) (drop (q .at) s)) → Emitted (value (partOf s (value q))) (put p) o (put (p + q .len)) o′
+unfolding partOf
+part-stored s q k p {o} {o′} f g h l e =
+    let d : List ℕ = drop (q .at) s in
+    let m : length d ≡ length s - q .at = length-drop (q .at) s in
+    let n : length (take (q .len) d) ≡ q .len = length-take-le (q .len) d (omega (arith, m)) in
+    let rest : List ℕ = take (k - q .len) (drop (q .len) d) in
+    let x : q .len + (k - q .len) ≡ k = omega arith in
+    let y : q .at + k - q .at ≡ k = omega arith in
+    let z : take k d ≡ take (q .len) d ++ rest = ap (λ (i : ℕ). take i d) (sym x) ∙ take-add (q .len) (k - q .len) d in
+    let w : length (take (q .len) d ++ rest) ≡ k = ap length (sym z) ∙ length-take-le k d (omega (arith, m)) in
+    rw (le-leb (q .at + q .len) (length s) (omega arith))
+    (stored-more rest p g n (omega (arith, w)) (e ∙ ap (λ (i : ℕ). sets o p (take i d)) y ∙ ap (sets o p) z))
+
+-- a part that is wholly inside has its length
+pub part-length : (s : List ℕ) (q : Place) → q .at + q .len ≤ length s → length (partOf s (value q)) ≡ q .len
+unfolding partOf
+part-length s q h = rw (le-leb (q .at + q .len) (length s) h) (length-take-le (q .len) (drop (q .at) s) (simp length-drop (omega arith)))
+
+-- the same behind its length
+pub counted-stored : (s : List ℕ) (q : Place) (k p : ℕ) {r : ℕ} {o o₁ o₂ : List ℕ} → q .len ≤ k → k < 256 → p + 2 + q .len ≤ past → q .at + k ≤ length s
+    → p + (2 + k) ≤ length o → o₁ ≡ sets o p (leBytes 2 (1 + 256 * q .len)) → o₂ ≡ sets o₁ (p + 2) (take (q .at + k - q .at) (drop (q .at) s))
+    → r ≡ p + 2 + q .len → Tried (countedPart s q) p o r o₂
+unfolding countedPart
+counted-stored s q k p {r} {o} {o₁} {o₂} f b g h l e₁ e₂ m =
+    let n : length (partOf s (value q)) ≡ q .len = part-length s q (omega arith) in
+    let v : 1 + 256 * q .len ≡ 1 + 256 * (length (partOf s (value q)) % 256) = omega (arith, n) in
+    let w : length o₁ ≡ length o = ap length e₁ ∙ length-sets o p (leBytes 2 (1 + 256 * q .len)) in
+    let a : Emitted (value (leBytes 2 (1 + 256 * (length (partOf s (value q)) % 256)))) (put p) o (put (p + 2)) o₁ =
+    stored p (omega arith) (length-leBytes 2 (1 + 256 * (length (partOf s (value q)) % 256))) (e₁ ∙ ap (λ (x : ℕ). sets o p (leBytes 2 x)) v) in
+    record { none = λ z. absurd (omega (arith, m, z)); done = λ _. rw m (join a (part-stored s q k (p + 2) f g h (omega (arith, w)) e₂)) }
+
+pub not-tried : {x : Answer Bytes} {to : ℕ} {o : List ℕ} → Tried x to o 0 o
+not-tried = record { none = λ _. refl; done = λ h. absurd (h refl) }
+
+-- a number that stands for a place is that place
+pub place-is : (n : ℕ) {p : ℕ} → put n ≡ At p → n ≡ p
+place-is n {p} = put-elim (λ t. t ≡ At p → n ≡ p) n (λ h e. cc) (λ h e. absurd (let z : _≡_ {A = ℕ} 0 1 = cc in omega arith))
+
+-- bytes that go over others, and bytes for which there is no room
+pub overwritten : {o o′ bs : List ℕ} (at : ℕ) → o′ ≡ sets o at bs → Overwritten bs (put at) o o′
+overwritten {o} {o′} {bs} at e =
+    record { over = λ p q _ _. e ∙ ap (λ (n : ℕ). sets o n bs) (place-is at q); keeps = ap length e ∙ length-sets o at bs }
+
+pub not-overwritten : {o bs : List ℕ} (at : ℕ) {n : ℕ} → length bs ≡ n → length o < at + n → Overwritten bs (put at) o o
+not-overwritten at g h = record { over = λ p q _ l. absurd (omega (arith, g, h, l, place-is at q)); keeps = refl }
+
 -- nothing more is emitted behind a refusal
 pub refused-stays : {x : Answer Bytes} {o : List ℕ} {p : ℕ} → past < p → Emitted x (put p) o (put p) o
 refused-stays {x} {o} {p} h = rw (put-refused p h) (record { moves = refl; lays = tt; keeps = refl })
@@ -187,14 +260,14 @@ refused-now {o} {p} {n} {q} b h e =
 
 -- Bytes of which only the length was known when y was to be emitted behind them: a stood there, and b went over it afterwards. They
 -- need to be right, as d, only where nothing was refused.
-pub patched : {a b d : Bytes} {y : Answer Bytes} {t s u : Put} {r : ℕ} {o o₁ o₂ o₃ : List ℕ} → length a ≡ length b → length b ≡ length d
-    → (r ≤ past → b ≡ d) → Emitted (value a) t o s o₁ → Emitted y s o₁ (put r) o₂ → Emitted (value b) t o₂ u o₃ → Emitted (value d ▸ y) t o (put r) o₃
-patched {a} {b} {d} {y} {t} {s} {u} {r} {o} {o₁} {o₂} {o₃} f g h e₁ e₂ e₃ =
+pub patched : {a b d : Bytes} {y : Answer Bytes} {t s : Put} {r : ℕ} {o o₁ o₂ o₃ : List ℕ} → length a ≡ length b → length b ≡ length d
+    → (r ≤ past → b ≡ d) → Emitted (value a) t o s o₁ → Emitted y s o₁ (put r) o₂ → Overwritten b t o₂ o₃ → Emitted (value d ▸ y) t o (put r) o₃
+patched {a} {b} {d} {y} {t} {s} {r} {o} {o₁} {o₂} {o₃} f g h e₁ e₂ w =
     let e : Emitted (value a ▸ y) t o (put r) o₂ = join e₁ e₂ in
     record {
       moves = e .moves ∙ moves y t;
-      lays = lays y t (e .moves) (e .lays) (e₃ .lays);
-      keeps = e₃ .keeps ∙ e .keeps;
+      lays = lays y t (e .keeps) (e .moves) (e .lays) w;
+      keeps = w .keeps ∙ e .keeps;
     }
   where
     moves : (y : Answer Bytes) (t : Put) → moved t (value a ▸ y) ≡ moved t (value d ▸ y)
@@ -202,18 +275,19 @@ patched {a} {b} {d} {y} {t} {s} {u} {r} {o} {o₁} {o₂} {o₃} f g h e₁ e₂
     moves (refused n) (At p) = refl
     moves y (Refused m) = refl
 
-    lays : (y : Answer Bytes) (t : Put) → put r ≡ moved t (value a ▸ y) → Laid t (value a ▸ y) o o₂ → Laid t (value b) o₂ o₃ → Laid t (value d ▸ y) o o₃
-    lays (value c) (At p) m l₁ l₂ = λ k₁ k₂.
-        let n₁ : length (a ++ c) ≡ length (d ++ c) = length-append a c ∙ ap (λ n. n + length c) (f ∙ g) ∙ sym (length-append d c) in
-        let q : o₂ ≡ sets o p (a ++ c) = l₁ (omega (arith, n₁)) (omega (arith, n₁)) in
-        let n₂ : length o₂ ≡ length o = ap length q ∙ length-sets o p (a ++ c) in
-        let n₃ : length (d ++ c) ≡ length d + length c = length-append d c in
-        l₂ (omega (arith, g, n₃)) (omega (arith, g, n₂, n₃))
-        ∙ ap (λ (l : List ℕ). sets l p b) q
-        ∙ sets-under a b c o p f
-        ∙ ap (λ (l : Bytes). sets o p (l ++ c)) (h (at-place r m))
-    lays (refused n) (At p) m l₁ l₂ = tt
-    lays y (Refused n) m l₁ l₂ = tt
+    lays : (y : Answer Bytes) (t : Put) → length o₂ ≡ length o → put r ≡ moved t (value a ▸ y) → Laid t (value a ▸ y) o o₂ → Overwritten b t o₂ o₃ → Laid t (value d ▸ y) o o₃
+    lays (value c) (At p) l m k w = λ k₁ k₂.
+        let n : length (d ++ c) ≡ length d + length c = length-append d c in
+        let n₁ : length (a ++ c) ≡ length (d ++ c) = length-append a c ∙ ap (λ n. n + length c) (f ∙ g) ∙ sym n in
+        let q : take (p + length (a ++ c)) o₂ ≡ take p o ++ (a ++ c) = k (omega (arith, n₁)) (omega (arith, n₁)) in
+        let v : o₃ ≡ sets o₂ p b = w .over p refl (omega (arith, g, n)) (omega (arith, g, n, l)) in
+        ap (take (p + length (d ++ c))) v
+        ∙ take-sets b o₂ (p + length (d ++ c)) p (omega (arith, g, n))
+        ∙ ap (λ (z : List ℕ). sets z p b) (ap (λ z. take (p + z) o₂) (sym n₁) ∙ q)
+        ∙ sets-under (take p o) a b c p (length-take-le p o (omega arith)) f
+        ∙ ap (λ (z : Bytes). take p o ++ (z ++ c)) (h (at-place r m))
+    lays (refused n) (At p) l m k w = tt
+    lays y (Refused n) l m k w = tt
 
 -- ---- a loop: what the rest of it, emitted from here, makes of the whole
 
@@ -279,6 +353,19 @@ pub copy-turn : (l w bytes : List ℕ) (at i : ℕ) → i < length bytes → set
 copy-turn l w bytes at i h e =
     let f : at + (i + 1) ≡ suc (at + i) = omega arith in
     rw f (rw (drop-more bytes i h) at e)
+
+-- and one from which the part up to j is taken
+pub copy-part : (l w bytes : List ℕ) (at i j : ℕ) → i ≤ j → j ≤ length bytes → sets l (at + i) (drop i bytes) ≡ w
+    → sets (sets l (at + i) (take (j - i) (drop i bytes))) (at + j) (drop j bytes) ≡ w
+copy-part l w bytes at i j g h e =
+    let n : length (take (j - i) (drop i bytes)) ≡ j - i = length-take-le (j - i) (drop i bytes) (simp length-drop (omega arith)) in
+    let m : at + j ≡ at + i + length (take (j - i) (drop i bytes)) = omega (arith, n) in
+    let q : i + (j - i) ≡ j = omega arith in
+    ap₂ (λ (x : ℕ) (y : List ℕ). sets (sets l (at + i) (take (j - i) (drop i bytes))) x y) m
+    (ap (λ (x : ℕ). drop x bytes) (sym q) ∙ sym (drop-drop (j - i) i bytes))
+    ∙ sym (sets-append (take (j - i) (drop i bytes)) (drop (j - i) (drop i bytes)) l (at + i))
+    ∙ ap (sets l (at + i)) (take-append-drop (j - i) (drop i bytes))
+    ∙ e
 
 pub copy-done : (l w bytes : List ℕ) (at i : ℕ) → length bytes ≤ i → sets l (at + i) (drop i bytes) ≡ w → l ≡ w
 copy-done l w bytes at i h e = rw (drop-none bytes i h) at e

@@ -3,18 +3,26 @@
 // A refusal stays in the place and passes through, so that a row of emitters is a straight line; and
 // where the output has no room an emitter only counts, so that one traversal both measures (over an
 // empty output) and writes. A place and a refusal are one number, since an enum is slow to hand on.
+use records::answer;
+use records::answer::Place;
+use records::answer::PlaceAnswer;
 ghost use mathlib.Core.Path.{_≡_};
 ghost use mathlib.Core.List.{_∷_, []};
 ghost use Prim.Native.Nat.{_+_, _≤_, max};
-ghost use lib.ListN.{length};
+ghost use lib.Dec.{leb};
+ghost use lib.ListN.{length, drop};
 ghost use lib.Seq.{sets};
 ghost use Rattle.util.specs.Read.{read, orZero};
 ghost use Rattle.records.specs.Answer.{value, refused};
+ghost use Rattle.records.specs.Record.{partOf};
 ghost use Rattle.description.specs.Format.{leBytes};
-ghost use Rattle.emit.specs.Emit.{Emitted, put, past};
+ghost use Rattle.emit.specs.Emit.{Emitted, Overwritten, Tried, countedPart, put, past};
 
 // No place is past this, one more than the most bytes that a sheet has. A number past it is a refusal: 0 is the next, and so on.
 pub const PAST: usize = 16_777_217;
+
+// A part of at most so many bytes is short.
+const SHORT: usize = 32;
 
 // Where an emitter ends whose bytes would end past it.
 fn stopped(at: usize) -> usize
@@ -94,17 +102,54 @@ pub fn put_u32(out: &mut [u8], to: usize, v: u32) -> usize
     put_le(out, to, v as u64, 4)
 }
 
-// The bytes, where there is room for them at `at`.
+// Eight bytes. (All are read before one is stored, so that the compiler makes one move of them.)
+fn store_8(bytes: &[u8], out: &mut [u8], at: usize)
+    requires { ⌜ (length (now bytes) ≡ 8) × (at + 8 ≤ length (now out)) ⌝ }
+    ensures { λ _. ⌜ now (out .exit) ≡ sets (now (out .entry)) at (now (bytes .entry)) ⌝ }
+{
+    let b0 = bytes[0];
+    let b1 = bytes[1];
+    let b2 = bytes[2];
+    let b3 = bytes[3];
+    let b4 = bytes[4];
+    let b5 = bytes[5];
+    let b6 = bytes[6];
+    let b7 = bytes[7];
+    out[at + 0] = b0;
+    out[at + 1] = b1;
+    out[at + 2] = b2;
+    out[at + 3] = b3;
+    out[at + 4] = b4;
+    out[at + 5] = b5;
+    out[at + 6] = b6;
+    out[at + 7] = b7;
+}
+
+// The bytes from `from` on, at their places behind `at`.
+fn store_rest(bytes: &[u8], from: usize, out: &mut [u8], at: usize)
+    requires { ⌜ (from ≤ length (now bytes)) × (at + length (now bytes) ≤ length (now out)) ⌝ }
+    ensures { λ _. ⌜ now (out .exit) ≡ sets (now (out .entry)) (at + from) (drop from (now (bytes .entry))) ⌝ }
+{
+    let count = bytes.len();
+    let mut i = from;
+    while i < count {
+        out[at + i] = bytes[i];
+        i += 1;
+    }
+}
+
+// The bytes, where there is room for them at `at`: eight at a time, and what is left one by one.
 fn store(bytes: &[u8], out: &mut [u8], at: usize)
     requires { ⌜ at + length (now bytes) ≤ length (now out) ⌝ }
     ensures { λ _. ⌜ now (out .exit) ≡ sets (now (out .entry)) at (now (bytes .entry)) ⌝ }
 {
     let count = bytes.len();
     let mut i = 0;
-    while i < count {
-        out[at + i] = bytes[i];
-        i += 1;
+    while 8 <= count - i {
+        store_8(&bytes[i..i + 8], out, at + i);
+        i += 8;
     }
+    store_rest(bytes, i, out, at);
 }
 
 pub fn put_bytes(bytes: &[u8], out: &mut [u8], to: usize) -> usize
@@ -122,6 +167,67 @@ pub fn put_bytes(bytes: &[u8], out: &mut [u8], to: usize) -> usize
         to + count
     } else {
         to + count
+    }
+}
+
+// Whether `count` bytes from `at` on end by `end`.
+fn has_room(end: usize, at: usize, count: usize) -> bool
+    ensures { λ r. ⌜ r ≡ leb (at + count) end ⌝ }
+{
+    if end < count {
+        return false;
+    }
+    if end - count < at {
+        return false;
+    }
+    true
+}
+
+// The bytes at a place of the library; none where it is not wholly inside. (Most are names, and short. How many bytes a short one has
+// is not looked at: as many as the longest has are stored, and the next emitter goes over those that are too many.)
+pub fn put_part(s: &[u8], place: Place, out: &mut [u8], to: usize) -> usize
+    ensures { λ r. ⌜ Emitted (value (partOf (now (s .entry)) (value place))) (put to) (now (out .entry)) (put r) (now (out .exit)) ⌝ }
+{
+    let at = place.at;
+    if place.len <= SHORT {
+        if to <= PAST - SHORT {
+            if has_room(s.len(), at, SHORT) {
+                if has_room(out.len(), to, SHORT) {
+                    store(&s[at..at + SHORT], out, to);
+                    return to + place.len;
+                }
+            }
+        }
+    }
+    put_bytes(answer::part(s, PlaceAnswer::Value(place)), out, to)
+}
+
+// The byte 1, the length in one byte and the bytes at a place of the library; 0, and nothing done, where they are not short, or there
+// is no room for more than they are. (Most names go this way: it is one row of tests and moves.)
+pub fn put_short_counted(s: &[u8], place: Place, out: &mut [u8], to: usize) -> usize
+    ensures { λ r. ⌜ Tried (countedPart (now (s .entry)) place) to (now (out .entry)) r (now (out .exit)) ⌝ }
+{
+    let at = place.at;
+    if place.len <= SHORT {
+        if to <= PAST - 2 - SHORT {
+            if has_room(s.len(), at, SHORT) {
+                if has_room(out.len(), to, 2 + SHORT) {
+                    store_le(out, to, 1 + 256 * (place.len as u64), 2);
+                    store(&s[at..at + SHORT], out, to + 2);
+                    return to + 2 + place.len;
+                }
+            }
+        }
+    }
+    0
+}
+
+// The lowest `width` bytes of `v` go over what stands at `at`, where there is room for them.
+pub fn overwrite(out: &mut [u8], at: usize, v: u64, width: usize)
+    ensures { λ _. ⌜ Overwritten (leBytes width v) (put at) (now (out .entry)) (now (out .exit)) ⌝ }
+{
+    if has_room(out.len(), at, width) {
+        store_le(out, at, v, width);
     }
 }
 

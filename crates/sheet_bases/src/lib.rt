@@ -29,10 +29,10 @@ pub fn put_base(
     ensures { λ r. ⌜ Emitted (baseEmitted (now (s .entry)) lib ti kind) (put to) (now (out .entry)) (put r) (now (out .exit)) ⌝ }
 {
     match kind {
-        3 => references::put_reference(s, lib, emit::word_at(s, ti.at, 0x54), out, to),
-        4 => references::put_reference(s, lib, emit::word_at(s, ti.at, 0x54), out, to),
-        5 => put_chain(s, lib, ti, out, to),
-        6 => trees::put_tree(s, lib, emit::word_at(s, ti.at, 0x54), out, to),
+        3 => references::put_reference(&*s, lib, emit::word_at(&*s, ti.at, 0x54), out, to),
+        4 => references::put_reference(&*s, lib, emit::word_at(&*s, ti.at, 0x54), out, to),
+        5 => put_chain(&*s, lib, ti, out, to),
+        6 => trees::put_tree(&*s, lib, emit::word_at(&*s, ti.at, 0x54), out, to),
         _ => to,
     }
 }
@@ -41,8 +41,8 @@ pub fn put_base(
 fn put_chain(s: &[u8], lib: TypeLib, ti: TypeInfoEntry, out: &mut [u8], to: usize) -> usize
     ensures { λ r. ⌜ Emitted (map (encode (list u32 (implType edition-one (lib .count)))) (implTypesAt (now (s .entry)) lib ti)) (put to) (now (out .entry)) (put r) (now (out .exit)) ⌝ }
 {
-    match impltypes::impl_types(lib, s, ti) {
-        ImplTypesAnswer::Value(cursor) => put_walked(s, lib, cursor, cursor.walk(s), out, to),
+    match impltypes::impl_types(lib, &*s, ti) {
+        ImplTypesAnswer::Value(cursor) => put_walked(&*s, lib, cursor, cursor.walk(&*s), out, to),
         ImplTypesAnswer::Refused(n) => emit::put_refusal(to, n),
     }
 }
@@ -61,7 +61,7 @@ fn put_walked(
     match walk {
         WalkAnswer::Took(count) => {
             let t = emit::put_le(out, to, count as u64, 4);
-            put_links(s, lib, cursor, count, out, t)
+            put_links(&*s, lib, cursor, count, out, t)
         }
         WalkAnswer::Refused(n) => emit::put_refusal(to, n),
     }
@@ -83,10 +83,10 @@ fn put_links(
     let mut c = cursor;
     let mut k: usize = 0;
     while k < count {
-        let ImplTypeStep::Record(link, next) = c.step(s) else {
+        let ImplTypeStep::Record(link, next) = c.step(&*s) else {
             return t;
         };
-        t = put_link(s, lib, link, out, t);
+        t = put_link(&*s, lib, link, out, t);
         c = next;
         k += 1;
     }
@@ -97,11 +97,11 @@ fn put_links(
 fn put_link(s: &[u8], lib: TypeLib, link: RefRecord, out: &mut [u8], to: usize) -> usize
     ensures { λ r. ⌜ Emitted (value (encode (implType edition-one (lib .count)) (implTypeAt (now (s .entry)) lib (record { at = link .at; len = link .len })))) (put to) (now (out .entry)) (put r) (now (out .exit)) ⌝ }
 {
-    let href = emit::word_at(s, link.at, 0x00);
+    let href = emit::word_at(&*s, link.at, 0x00);
     let t = if util::bits(href, 0, 2) == 0 {
-        references::put_in_this_file(s, lib.count, href, out, to)
+        references::put_in_this_file(&*s, lib.count, href, out, to)
     } else {
-        references::put_reference(s, lib, href, out, to)
+        references::put_reference(&*s, lib, href, out, to)
     };
-    emit::copy_u32(s, link.at, 0x04, out, t)
+    emit::copy_u32(&*s, link.at, 0x04, out, t)
 }

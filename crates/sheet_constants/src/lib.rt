@@ -136,7 +136,7 @@ fn put_text(s: &[u8], place: PlaceAnswer, out: &mut [u8], to: usize) -> usize
 {
     match place {
         PlaceAnswer::Value(p) => {
-            let bytes = answer::part(s, PlaceAnswer::Value(p));
+            let bytes = answer::part(&*s, PlaceAnswer::Value(p));
             let t = emit::put_u8(out, to, 1);
             let t = emit::put_le(out, t, bytes.len() as u64, 4);
             emit::put_bytes(bytes, out, t)
@@ -153,8 +153,8 @@ fn put_value(s: &[u8], content: Content, shape: Shape, out: &mut [u8], to: usize
         Shape::Empty => to,
         Shape::Number(width) => emit::put_le(out, to, number_in(content), width),
         Shape::Bit => emit::put_le(out, to, number_in(content), 1),
-        Shape::Octets(_) => emit::put_bytes(answer::part(s, place_in(content)), out, to),
-        Shape::Text => put_text(s, place_in(content), out, to),
+        Shape::Octets(_) => emit::put_bytes(answer::part(&*s, place_in(content)), out, to),
+        Shape::Text => put_text(&*s, place_in(content), out, to),
     }
 }
 
@@ -164,17 +164,17 @@ pub fn put_constant(s: &[u8], v: ConstValue, out: &mut [u8], to: usize) -> usize
 {
     let code = v.vt();
     let t = emit::put_u16(out, to, code);
-    put_value(s, content_of(v), shape_of(code), out, t)
+    put_value(&*s, content_of(v), shape_of(code), out, t)
 }
 
 // The constant that a record's word is or names: byte 0 where there is none, or byte 1 and the constant.
 pub fn put_opt_constant(s: &[u8], lib: TypeLib, word: u32, out: &mut [u8], to: usize) -> usize
     ensures { λ r. ⌜ Emitted (value (encode (opt constant) (constantOf (now (s .entry)) lib word))) (put to) (now (out .entry)) (put r) (now (out .exit)) ⌝ }
 {
-    match constants::const_at(lib, s, word) {
+    match constants::const_at(lib, &*s, word) {
         ConstAnswer::Value(v) => {
             let t = emit::put_u8(out, to, 1);
-            put_constant(s, v, out, t)
+            put_constant(&*s, v, out, t)
         }
         ConstAnswer::Refused(_) => emit::put_u8(out, to, 0),
     }

@@ -1,3 +1,3 @@
 -- Laws that the emitters cite.
 pub mod MemberLaws
-mod WordLaws
+pub mod WordLaws

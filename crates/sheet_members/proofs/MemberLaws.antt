@@ -28,12 +28,12 @@ use Rattle.typelib.specs.TypeInfos.{funcMemid, varMemid, funcNameOffset, varNam
 use Rattle.description.specs.Format.{Format, encode, opt, list, leBytes, length-leBytes}
 use Rattle.description.specs.Description.{Bytes, Tree, Parameter, Function, Variable, isConstant}
 use Rattle.description.specs.Sheet.{edition-one, u16, u32, name, constant, tree, variableValue, variable, parameter, function}
-use Rattle.describe.specs.Values.{found, fieldOf, all, numbered}
+use Rattle.describe.specs.Values.{found, all, numbered}
 use Rattle.describe.specs.Trees.{treeOf}
 use Rattle.describe.specs.Constants.{constantOf}
 use Rattle.describe.specs.Members.{funcRecords, varRecords, paramRecords, yields, nameOf, nameBy, memidBy, constantBy, defaultOf, parameterWith, parameterOf, parametersOf, functionWith, functionOf, functionsOf, valueWith, variableWith, variableOf, variablesOf}
 use Rattle.emit.specs.Emit.{Put}
-use Rattle.emit.specs.Emit.{_▸_, Emitted, put, past}
+use Rattle.emit.specs.Emit.{_▸_, Emitted, Overwritten, put, past}
 use Rattle.emit.specs.Laws.{leBytes-join, patched}
 use Rattle.sheet_members.proofs.WordLaws.{memid-same, name-same}
 use Rattle.sheet_members.specs.Lists.{layAll, members-laid, members-none}
@@ -55,8 +55,8 @@ words-is s at {a} {b} {c} {d} {e} ea eb ec ed ee h k l =
     ∙ rw (ea, eb, ec, ed, ee))
 
 -- their count m is put over a 0 once they are emitted; it is theirs, n, where nothing was refused
-pub counted : {n m r : ℕ} {y : Answer Bytes} {t s u : Put} {o o₁ o₂ o₃ : List ℕ} → (r ≤ past → m ≡ n)
-    → Emitted (value (leBytes 2 0)) t o s o₁ → Emitted y s o₁ (put r) o₂ → Emitted (value (leBytes 2 m)) t o₂ u o₃
+pub counted : {n m r : ℕ} {y : Answer Bytes} {t s : Put} {o o₁ o₂ o₃ : List ℕ} → (r ≤ past → m ≡ n)
+    → Emitted (value (leBytes 2 0)) t o s o₁ → Emitted y s o₁ (put r) o₂ → Overwritten (leBytes 2 m) t o₂ o₃
     → Emitted (value (leBytes 2 n) ▸ y) t o (put r) o₃
 counted {n} {m} h = patched (length-leBytes 2 0 ∙ sym (length-leBytes 2 m)) (length-leBytes 2 m ∙ sym (length-leBytes 2 n)) (λ k. ap (leBytes 2) (h k))
 

@@ -32,12 +32,12 @@ ghost use Rattle.sheet_members.specs.Words.{functionWords};
 pub fn put_functions(s: &[u8], lib: TypeLib, ti: TypeInfoEntry, out: &mut [u8], to: usize) -> usize
     ensures { λ r. ⌜ Emitted (map (encode (list u16 (function edition-one (lib .count)))) (all (functionsOf (now (s .entry)) lib ti))) (put to) (now (out .entry)) (put r) (now (out .exit)) ⌝ }
 {
-    match iterators::funcs(s, ti) {
+    match iterators::funcs(&*s, ti) {
         FuncsAnswer::Value(cursor) => {
             // the count is known once they are emitted
             let t = emit::put_u16(out, to, 0);
-            let listed = put_each(s, lib, ti, cursor, out, t);
-            emit::put_le(out, to, listed.count as u64, 2);
+            let listed = put_each(&*s, lib, ti, cursor, out, t);
+            emit::overwrite(out, to, listed.count as u64, 2);
             listed.to
         }
         FuncsAnswer::Refused(_) => emit::put_u16(out, to, 0),
@@ -56,7 +56,7 @@ fn put_each(
 ) -> Listed
     ensures { λ r. ⌜ Emitted (layAll (function edition-one (lib .count)) (numbered (functionOf (now (s .entry)) lib ti) 0 (yields (funcStep (now (s .entry))) (cursor .remaining) cursor))) (put to) (now (out .entry)) (put (r .to)) (now (out .exit)) × (r .to ≤ past → r .count ≡ length (yields (funcStep (now (s .entry))) (cursor .remaining) cursor)) ⌝ }
 {
-    let rows = words::func_rows(s, ti);
+    let rows = words::func_rows(&*s, ti);
     let mut t = to;
     let mut c = cursor;
     let mut i: usize = 0;
@@ -64,12 +64,12 @@ fn put_each(
         if emit::PAST < t {
             return Listed { to: t, count: i };
         }
-        let FuncStep::Record(func, next) = c.step(s) else {
+        let FuncStep::Record(func, next) = c.step(&*s) else {
             return Listed { to: t, count: i };
         };
-        let memid = words::word(s, rows.memids, i);
-        let name_offset = words::word(s, rows.names, i);
-        t = put_function(s, lib, ti, i, memid, name_offset, func, out, t);
+        let memid = words::word(&*s, rows.memids, i);
+        let name_offset = words::word(&*s, rows.names, i);
+        t = put_function(&*s, lib, ti, i, memid, name_offset, func, out, t);
         c = next;
         i += 1;
     }
@@ -92,22 +92,22 @@ fn put_function(
     ensures { λ r. ⌜ Emitted (map (encode (function edition-one (lib .count))) (functionOf (now (s .entry)) lib ti index (record { at = func .at; len = func .len }))) (put to) (now (out .entry)) (put r) (now (out .exit)) ⌝ }
 {
     let t = values::put_opt_memid(memid, out, to);
-    let t = values::put_name_by(s, lib, name_offset, out, t);
-    let field = emit::word_at(s, func.at, 0x04);
-    let t = trees::put_tree(s, lib, field, out, t);
-    let t = put_words(s, func.at, out, t);
-    parameters::put_parameters(s, lib, func, out, t)
+    let t = values::put_name_by(&*s, lib, name_offset, out, t);
+    let field = emit::word_at(&*s, func.at, 0x04);
+    let t = trees::put_tree(&*s, lib, field, out, t);
+    let t = put_words(&*s, func.at, out, t);
+    parameters::put_parameters(&*s, lib, func, out, t)
 }
 
 // The words of the record at `at` from 0x08 on, as two numbers.
 fn put_words(s: &[u8], at: usize, out: &mut [u8], to: usize) -> usize
     ensures { λ r. ⌜ Emitted (value (functionWords (now (s .entry)) at)) (put to) (now (out .entry)) (put r) (now (out .exit)) ⌝ }
 {
-    let flags = emit::word_at(s, at, 0x08) as u64;
-    let vtable_offset = emit::half_at(s, at, 0x0C) as u64;
-    let fkccic = emit::word_at(s, at, 0x10) as u64;
-    let nrargs = emit::half_at(s, at, 0x14) as u64;
-    let nroargs = emit::half_at(s, at, 0x16) as u64;
+    let flags = emit::word_at(&*s, at, 0x08) as u64;
+    let vtable_offset = emit::half_at(&*s, at, 0x0C) as u64;
+    let fkccic = emit::word_at(&*s, at, 0x10) as u64;
+    let nrargs = emit::half_at(&*s, at, 0x14) as u64;
+    let nroargs = emit::half_at(&*s, at, 0x16) as u64;
     let t = emit::put_le(out, to, flags + 4294967296 * vtable_offset, 6);
     emit::put_le(out, t, fkccic + 4294967296 * (nrargs + 65536 * nroargs), 8)
 }

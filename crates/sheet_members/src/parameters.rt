@@ -27,12 +27,12 @@ ghost use Rattle.sheet_members.specs.Lists.{layAll};
 pub fn put_parameters(s: &[u8], lib: TypeLib, func: FuncRecord, out: &mut [u8], to: usize) -> usize
     ensures { λ r. ⌜ Emitted (map (encode (list u16 (parameter edition-one (lib .count)))) (all (parametersOf (now (s .entry)) lib func))) (put to) (now (out .entry)) (put r) (now (out .exit)) ⌝ }
 {
-    match iterators::params(s, func) {
+    match iterators::params(&*s, func) {
         ParamsAnswer::Value(cursor) => {
             // the count is known once they are emitted
             let t = emit::put_u16(out, to, 0);
-            let listed = put_each(s, lib, func, cursor, out, t);
-            emit::put_le(out, to, listed.count as u64, 2);
+            let listed = put_each(&*s, lib, func, cursor, out, t);
+            emit::overwrite(out, to, listed.count as u64, 2);
             listed.to
         }
         ParamsAnswer::Refused(_) => emit::put_u16(out, to, 0),
@@ -58,10 +58,10 @@ fn put_each(
         if emit::PAST < t {
             return Listed { to: t, count: i };
         }
-        let ParamStep::Record(param, next) = c.step(s) else {
+        let ParamStep::Record(param, next) = c.step(&*s) else {
             return Listed { to: t, count: i };
         };
-        t = put_parameter(s, lib, func, i, param, out, t);
+        t = put_parameter(&*s, lib, func, i, param, out, t);
         c = next;
         i += 1;
     }
@@ -79,24 +79,31 @@ fn put_parameter(
 ) -> usize
     ensures { λ r. ⌜ Emitted (map (encode (parameter edition-one (lib .count))) (parameterOf (now (s .entry)) lib func index (record { at = param .at; len = param .len }))) (put to) (now (out .entry)) (put r) (now (out .exit)) ⌝ }
 {
-    let flags = emit::word_at(s, param.at, 0x08);
-    let field = emit::word_at(s, param.at, 0x00);
-    let t = trees::put_tree(s, lib, field, out, to);
-    let t = values::put_opt_name(s, lib, emit::word_at(s, param.at, 0x04), out, t);
+    let flags = emit::word_at(&*s, param.at, 0x08);
+    let field = emit::word_at(&*s, param.at, 0x00);
+    let t = trees::put_tree(&*s, lib, field, out, to);
+    let t = values::put_opt_name(&*s, lib, emit::word_at(&*s, param.at, 0x04), out, t);
     if flags / 0x20 % 2 == 1 {
         let t = emit::put_u32(out, t, flags);
-        put_constant_by(s, lib, func.default_value_offset(s, index), out, t)
+        put_constant_by(&*s, lib, func.default_value_offset(&*s, index), out, t)
     } else {
         // the flags and the byte 0 of a missing default are one number
         emit::put_le(out, t, flags as u64, 5)
     }
 }
 
-fn put_constant_by(s: &[u8], lib: TypeLib, offset: I32Answer, out: &mut [u8], to: usize) -> usize
+// The constant that an offset names: missing where the offset is.
+pub fn put_constant_by(
+    s: &[u8],
+    lib: TypeLib,
+    offset: I32Answer,
+    out: &mut [u8],
+    to: usize,
+) -> usize
     ensures { λ r. ⌜ Emitted (value (encode (opt constant) (constantBy (now (s .entry)) lib (toldI32 offset)))) (put to) (now (out .entry)) (put r) (now (out .exit)) ⌝ }
 {
     let I32Answer::Value(x) = offset else {
         return emit::put_u8(out, to, 0);
     };
-    sheet_constants::put_opt_constant(s, lib, util::unsigned32(x), out, to)
+    sheet_constants::put_opt_constant(&*s, lib, util::unsigned32(x), out, to)
 }

@@ -27,12 +27,12 @@ ghost use Rattle.sheet_members.specs.Words.{valueBytes};
 pub fn put_variables(s: &[u8], lib: TypeLib, ti: TypeInfoEntry, out: &mut [u8], to: usize) -> usize
     ensures { λ r. ⌜ Emitted (map (encode (list u16 (variable edition-one (lib .count)))) (all (variablesOf (now (s .entry)) lib ti))) (put to) (now (out .entry)) (put r) (now (out .exit)) ⌝ }
 {
-    match iterators::vars(s, ti) {
+    match iterators::vars(&*s, ti) {
         VarsAnswer::Value(cursor) => {
             // the count is known once they are emitted
             let t = emit::put_u16(out, to, 0);
-            let listed = put_each(s, lib, ti, cursor, out, t);
-            emit::put_le(out, to, listed.count as u64, 2);
+            let listed = put_each(&*s, lib, ti, cursor, out, t);
+            emit::overwrite(out, to, listed.count as u64, 2);
             listed.to
         }
         VarsAnswer::Refused(_) => emit::put_u16(out, to, 0),
@@ -58,10 +58,10 @@ fn put_each(
         if emit::PAST < t {
             return Listed { to: t, count: i };
         }
-        let VarStep::Record(var, next) = c.step(s) else {
+        let VarStep::Record(var, next) = c.step(&*s) else {
             return Listed { to: t, count: i };
         };
-        t = put_variable(s, lib, ti, i, var, out, t);
+        t = put_variable(&*s, lib, ti, i, var, out, t);
         c = next;
         i += 1;
     }
@@ -79,14 +79,14 @@ fn put_variable(
 ) -> usize
     ensures { λ r. ⌜ Emitted (map (encode (variable edition-one (lib .count))) (variableOf (now (s .entry)) lib ti index (record { at = var .at; len = var .len }))) (put to) (now (out .entry)) (put r) (now (out .exit)) ⌝ }
 {
-    let varkind = emit::half_at(s, var.at, 0x0C);
-    let t = values::put_opt_memid(lib.var_memid(s, ti, index), out, to);
-    let t = values::put_name_by(s, lib, lib.var_name_offset(s, ti, index), out, t);
-    let field = emit::word_at(s, var.at, 0x04);
-    let t = trees::put_tree(s, lib, field, out, t);
-    let t = emit::copy_u32(s, var.at, 0x08, out, t);
+    let varkind = emit::half_at(&*s, var.at, 0x0C);
+    let t = values::put_opt_memid(lib.var_memid(&*s, ti, index), out, to);
+    let t = values::put_name_by(&*s, lib, lib.var_name_offset(&*s, ti, index), out, t);
+    let field = emit::word_at(&*s, var.at, 0x04);
+    let t = trees::put_tree(&*s, lib, field, out, t);
+    let t = emit::copy_u32(&*s, var.at, 0x08, out, t);
     let t = emit::put_u16(out, t, varkind);
-    put_value(s, lib, varkind, emit::word_at(s, var.at, 0x10), out, t)
+    put_value(&*s, lib, varkind, emit::word_at(&*s, var.at, 0x10), out, t)
 }
 
 // The word at 0x10: a constant where 0x0C holds 2.
@@ -94,7 +94,7 @@ fn put_value(s: &[u8], lib: TypeLib, varkind: u16, word: u32, out: &mut [u8], to
     ensures { λ r. ⌜ Emitted (value (valueBytes (isConstant varkind) (valueWith (now (s .entry)) lib (isConstant varkind) word))) (put to) (now (out .entry)) (put r) (now (out .exit)) ⌝ }
 {
     if varkind == 2 {
-        sheet_constants::put_opt_constant(s, lib, word, out, to)
+        sheet_constants::put_opt_constant(&*s, lib, word, out, to)
     } else {
         emit::put_u32(out, to, word)
     }

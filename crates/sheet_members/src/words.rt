@@ -9,8 +9,7 @@ use typelib::typeinfos;
 use typelib::typeinfos::CountsAnswer;
 use util::NEGATIVE;
 ghost use mathlib.Core.Path.{_≡_};
-ghost use Prim.Native.Nat.{_+_, _*_, _≤_};
-ghost use lib.ListN.{length};
+ghost use Prim.Native.Nat.{_+_, _*_};
 ghost use Rattle.util.specs.Read.{read};
 ghost use Rattle.records.specs.Answer.{value, orNine, map};
 ghost use Rattle.records.specs.Record.{signed32};
@@ -25,7 +24,7 @@ pub struct Rows {
     pub names: usize,
 }
 
-pub(crate) fn func_rows(s: &[u8], ti: TypeInfoEntry) -> Rows
+pub fn func_rows(s: &[u8], ti: TypeInfoEntry) -> Rows
     ensures { λ r. ⌜ FuncRows (now (s .entry)) ti (r .memids) (r .names) ⌝ }
 {
     match typeinfos::declared_counts(s, ti) {
@@ -88,10 +87,12 @@ fn row_from(s: &[u8], at: usize, first: u32) -> usize
 }
 
 // Word `index` of the row at `at`.
-pub(crate) fn word(s: &[u8], at: usize, index: usize) -> I32Answer
-    requires { ⌜ at ≤ length (now s) ⌝ }
+pub fn word(s: &[u8], at: usize, index: usize) -> I32Answer
     ensures { λ r. ⌜ toldI32 r ≡ signed32 (orNine (read 4 (now (s .entry)) (at + 4 * index))) ⌝ }
 {
+    if s.len() < at {
+        return I32Answer::Refused(9);
+    }
     if (s.len() - at) / 4 <= index {
         return I32Answer::Refused(9);
     }

@@ -43,7 +43,7 @@ use Rattle.describe.specs.Values.{found, bytesIn, fieldOf}
 use Rattle.describe.specs.References.{guidOf, fileWith, fileOf, ownOf, importOf, referenceFrom, referenceOf}
 use Rattle.describe.specs.Members.{nameOf, nameBy, memidBy}
 use Rattle.emit.specs.Emit.{Put}
-use Rattle.emit.specs.Emit.{_▸_, Emitted}
+use Rattle.emit.specs.Emit.{countedPart, _▸_, Emitted}
 use Rattle.emit.specs.Laws.{byte-first}
 use Rattle.sheet_trees.specs.Parts.{optPart, referenceBytes, internalBytes, indexBytes, hereBytes, ownBytes, fileBytes, importBytes}
 
@@ -65,12 +65,13 @@ module _ (s : List ℕ) where
     unfolding optPart leBytes
     part-some = rw (e, f)
 
-    -- the byte 1 and the count are put as one number
-    pub counted-some : value (leBytes 2 (1 + 256 * (length bs % 256))) ▸ value bs ≡ value (optPart 1 (found (bytesIn s (toldPlace a))))
-    unfolding optPart leBytes
-    counted-some =
-        let n : length bs % 256 % 256 ≡ length bs % 256 = omega arith in
-        ap (λ (l : Answer Bytes). l ▸ value bs) (byte-first 1 1 (length bs % 256) (omega arith)) ∙ rw (n, e, f)
+  -- the byte 1 and the count are put as one number
+  pub counted-some : {a : PlaceAnswer} {p : Place} → a ≡ place.Value p → countedPart s p ≡ value (optPart 1 (found (bytesIn s (toldPlace a))))
+  unfolding optPart leBytes countedPart
+  counted-some {a} {p} e =
+      let bs : Bytes = partOf s (value p) in
+      let n : length bs % 256 % 256 ≡ length bs % 256 = omega arith in
+      ap (λ (l : Answer Bytes). l ▸ value bs) (byte-first 1 1 (length bs % 256) (omega arith)) ∙ rw (n, e)
 
   pub part-none : (w : ℕ) {a : PlaceAnswer} {n : ℕ} → a ≡ place.Refused n → value (0 ∷ []) ≡ value (optPart w (found (bytesIn s (toldPlace a))))
   unfolding optPart

@@ -31,8 +31,8 @@ pub fn put_reference(s: &[u8], lib: TypeLib, href: u32, out: &mut [u8], to: usiz
     ensures { λ r. ⌜ Emitted (value (encode (reference edition-one (lib .count)) (referenceOf (now (s .entry)) lib href))) (put to) (now (out .entry)) (put r) (now (out .exit)) ⌝ }
 {
     let bit = util::bits(href, 24, 1);
-    match lib.resolve_hreftype_full(s, util::signed32(href)) {
-        ResolvedAnswer::Value(r) => put_resolved(s, lib, bit, r, out, to),
+    match lib.resolve_hreftype_full(&*s, util::signed32(href)) {
+        ResolvedAnswer::Value(r) => put_resolved(&*s, lib, bit, r, out, to),
         ResolvedAnswer::Refused(_) => emit::put_u8(out, to, 0),
     }
 }
@@ -71,7 +71,7 @@ fn put_resolved(
     match resolved {
         ResolvedHreftype::Internal(index) => put_internal(bit, index, out, to),
         ResolvedHreftype::External(info, imp_file) => {
-            put_import(s, lib, bit, info, imp_file, out, to)
+            put_import(&*s, lib, bit, info, imp_file, out, to)
         },
     }
 }
@@ -95,12 +95,12 @@ fn put_import(
 ) -> usize
     ensures { λ r. ⌜ Emitted (value (importBytes (importOf (now (s .entry)) lib bit (info .at) (toldImpFile «imp_file»)))) (put to) (now (out .entry)) (put r) (now (out .exit)) ⌝ }
 {
-    let flags = emit::word_at(s, info.at, 0x00);
+    let flags = emit::word_at(&*s, info.at, 0x00);
     let t = emit::put_u8(out, to, 2);
     let t = emit::put_le(out, t, bit as u64, 1);
     let t = emit::put_u32(out, t, flags);
-    let t = put_own(s, lib, flags, emit::word_at(s, info.at, 0x08), out, t);
-    put_opt_file(s, lib, imp_file, out, t)
+    let t = put_own(&*s, lib, flags, emit::word_at(&*s, info.at, 0x08), out, t);
+    put_opt_file(&*s, lib, imp_file, out, t)
 }
 
 // The word at 0x08 of an import record: a GUID's offset where its flags have 0x10000.
@@ -108,7 +108,7 @@ fn put_own(s: &[u8], lib: TypeLib, flags: u32, word: u32, out: &mut [u8], to: us
     ensures { λ r. ⌜ Emitted (value (ownBytes (ownIsGuid flags) (ownOf (now (s .entry)) lib (ownIsGuid flags) word))) (put to) (now (out .entry)) (put r) (now (out .exit)) ⌝ }
 {
     if flags / 0x10000 % 2 == 1 {
-        values::put_opt_guid(s, lib, word, out, to)
+        values::put_opt_guid(&*s, lib, word, out, to)
     } else {
         emit::put_u32(out, to, word)
     }
@@ -118,7 +118,7 @@ fn put_opt_file(s: &[u8], lib: TypeLib, imp_file: ImpFileAnswer, out: &mut [u8],
     ensures { λ r. ⌜ Emitted (value (encode (opt file) (fileOf (now (s .entry)) lib (toldImpFile «imp_file»)))) (put to) (now (out .entry)) (put r) (now (out .exit)) ⌝ }
 {
     match imp_file {
-        ImpFileAnswer::Value(f) => put_file(s, lib, f, f.filename_bytes(s), out, to),
+        ImpFileAnswer::Value(f) => put_file(&*s, lib, f, f.filename_bytes(&*s), out, to),
         ImpFileAnswer::Refused(_) => emit::put_u8(out, to, 0),
     }
 }
@@ -136,11 +136,11 @@ fn put_file(
     let PlaceAnswer::Value(place) = name else {
         return emit::put_u8(out, to, 0);
     };
-    let bytes = records::answer::part(s, PlaceAnswer::Value(place));
+    let bytes = records::answer::part(&*s, PlaceAnswer::Value(place));
     let t = emit::put_u8(out, to, 1);
-    let t = values::put_opt_guid(s, lib, emit::word_at(s, f.at, 0x00), out, t);
-    let t = emit::copy_u32(s, f.at, 0x04, out, t);
-    let t = emit::copy_u32(s, f.at, 0x08, out, t);
+    let t = values::put_opt_guid(&*s, lib, emit::word_at(&*s, f.at, 0x00), out, t);
+    let t = emit::copy_u32(&*s, f.at, 0x04, out, t);
+    let t = emit::copy_u32(&*s, f.at, 0x08, out, t);
     let t = emit::put_le(out, t, bytes.len() as u64, 2);
     emit::put_bytes(bytes, out, t)
 }

@@ -41,9 +41,9 @@ pub fn put_tree(s: &[u8], lib: TypeLib, field: u32, out: &mut [u8], to: usize) -
     ensures { λ r. ⌜ Emitted (map (encode (tree edition-one (lib .count))) (treeOf (now (s .entry)) lib field)) (put to) (now (out .entry)) (put r) (now (out .exit)) ⌝ }
 {
     if NEGATIVE <= field {
-        put_inline(s, field, out, to)
+        put_inline(&*s, field, out, to)
     } else {
-        put_nested(s, lib, field, LEVELS, out, to)
+        put_nested(&*s, lib, field, LEVELS, out, to)
     }
 }
 
@@ -54,10 +54,10 @@ fn put_nested(s: &[u8], lib: TypeLib, field: u32, levels: usize, out: &mut [u8],
     if levels == 0 {
         return emit::put_refusal(to, 11);
     }
-    let level = put_level(s, lib, field, out, to);
+    let level = put_level(&*s, lib, field, out, to);
     let inner = level.inner;
     match inner {
-        Inner::Field(below) => put_nested(s, lib, below, levels - 1, out, level.to),
+        Inner::Field(below) => put_nested(&*s, lib, below, levels - 1, out, level.to),
         Inner::Nothing => level.to,
     }
 }
@@ -83,14 +83,14 @@ fn put_level(s: &[u8], lib: TypeLib, field: u32, out: &mut [u8], to: usize) -> L
     if NEGATIVE <= field {
         return put_leaf(util::bits(field, 0, 12) as u16, out, to);
     }
-    match lib.type_desc_at(s, field) {
-        PairAnswer::Value(words) => put_descriptor(s, lib, words.first, words.second, out, to),
+    match lib.type_desc_at(&*s, field) {
+        PairAnswer::Value(words) => put_descriptor(&*s, lib, words.first, words.second, out, to),
         PairAnswer::Refused(_) => put_nothing(out, to),
     }
 }
 
 // The description that the two words of a type descriptor are.
-fn put_descriptor(
+pub fn put_descriptor(
     s: &[u8],
     lib: TypeLib,
     first: u32,
@@ -104,8 +104,8 @@ fn put_descriptor(
     match code {
         26 => put_over(2, second, out, to),
         27 => put_over(3, second, out, to),
-        28 => put_array_at(s, lib, util::bits(second, 0, 16), out, to),
-        29 => put_user(s, lib, second, out, to),
+        28 => put_array_at(&*s, lib, util::bits(second, 0, 16), out, to),
+        29 => put_user(&*s, lib, second, out, to),
         _ => put_leaf(code as u16, out, to),
     }
 }
@@ -150,9 +150,9 @@ fn put_user(s: &[u8], lib: TypeLib, href: u32, out: &mut [u8], to: usize) -> Lev
 {
     let t = emit::put_u8(out, to, 5);
     let end = if util::bits(href, 0, 2) == 0 {
-        references::put_in_this_file(s, lib.count, href, out, t)
+        references::put_in_this_file(&*s, lib.count, href, out, t)
     } else {
-        references::put_reference(s, lib, href, out, t)
+        references::put_reference(&*s, lib, href, out, t)
     };
     Level {
         to: end,
@@ -164,10 +164,10 @@ fn put_user(s: &[u8], lib: TypeLib, href: u32, out: &mut [u8], to: usize) -> Lev
 fn put_array_at(s: &[u8], lib: TypeLib, offset: u32, out: &mut [u8], to: usize) -> Level
     ensures { λ r. ⌜ Levelled (now (s .entry)) lib (arrayOf (arrayDescAt (now (s .entry)) lib offset)) (put to) (now (out .entry)) (put (r .to)) (now (out .exit)) (toldInner (r .inner)) ⌝ }
 {
-    match lib.array_desc_at(s, offset) {
+    match lib.array_desc_at(&*s, offset) {
         ArrayDescAnswer::Value(desc) => Level {
-            to: put_array(s, desc, out, to),
-            inner: Inner::Field(emit::word_at(s, desc.at, 0x00)),
+            to: put_array(&*s, desc, out, to),
+            inner: Inner::Field(emit::word_at(&*s, desc.at, 0x00)),
         },
         ArrayDescAnswer::Refused(_) => put_nothing(out, to),
     }
@@ -177,10 +177,10 @@ fn put_array_at(s: &[u8], lib: TypeLib, offset: u32, out: &mut [u8], to: usize) 
 fn put_array(s: &[u8], desc: ArrayDesc, out: &mut [u8], to: usize) -> usize
     ensures { λ r. ⌜ Emitted (value (arrayBytes (now (s .entry)) (desc .at))) (put to) (now (out .entry)) (put r) (now (out .exit)) ⌝ }
 {
-    let count = emit::half_at(s, desc.at, 0x04);
+    let count = emit::half_at(&*s, desc.at, 0x04);
     let t = emit::put_u8(out, to, 4);
     let t = emit::put_u16(out, t, count);
-    put_dimensions(s, desc.at, count, out, t)
+    put_dimensions(&*s, desc.at, count, out, t)
 }
 
 // The dimensions of the array descriptor at `at`, eight bytes each, behind its eight bytes.
@@ -191,8 +191,8 @@ fn put_dimensions(s: &[u8], at: usize, count: u16, out: &mut [u8], to: usize) ->
     let mut offset: u32 = 8;
     let mut left = count;
     while 0 < left {
-        t = emit::copy_u32(s, at, offset, out, t);
-        t = emit::copy_u32(s, at, offset + 4, out, t);
+        t = emit::copy_u32(&*s, at, offset, out, t);
+        t = emit::copy_u32(&*s, at, offset + 4, out, t);
         offset += 8;
         left -= 1;
     }

@@ -1,6 +1,7 @@
 // Numbers, names and GUIDs that may be missing: byte 0 for nothing, or byte 1 and the value.
 use records::answer;
 use records::answer::I32Answer;
+use records::answer::Place;
 use records::answer::PlaceAnswer;
 use typelib::TypeLib;
 ghost use mathlib.Core.Path.{_≡_};
@@ -11,7 +12,7 @@ ghost use Rattle.description.specs.Sheet.{u32, guid, name};
 ghost use Rattle.describe.specs.Values.{found, bytesIn};
 ghost use Rattle.describe.specs.References.{guidOf};
 ghost use Rattle.describe.specs.Members.{nameOf, nameBy, memidBy};
-ghost use Rattle.emit.specs.Emit.{Emitted, put};
+ghost use Rattle.emit.specs.Emit.{Emitted, countedPart, put};
 ghost use Rattle.sheet_trees.specs.Parts.{optPart};
 
 // The bytes at a place of the library, behind their count in one byte.
@@ -19,13 +20,21 @@ fn put_opt_counted(s: &[u8], place: PlaceAnswer, out: &mut [u8], to: usize) -> u
     ensures { λ r. ⌜ Emitted (value (optPart 1 (found (bytesIn (now (s .entry)) (toldPlace place))))) (put to) (now (out .entry)) (put r) (now (out .exit)) ⌝ }
 {
     match place {
-        PlaceAnswer::Value(p) => {
-            let bytes = answer::part(s, PlaceAnswer::Value(p));
-            let t = emit::put_le(out, to, 1 + 256 * (bytes.len() as u64 % 256), 2);
-            emit::put_bytes(bytes, out, t)
-        }
+        PlaceAnswer::Value(p) => put_counted(&*s, p, out, to),
         PlaceAnswer::Refused(_) => emit::put_u8(out, to, 0),
     }
+}
+
+fn put_counted(s: &[u8], place: Place, out: &mut [u8], to: usize) -> usize
+    ensures { λ r. ⌜ Emitted (countedPart (now (s .entry)) place) (put to) (now (out .entry)) (put r) (now (out .exit)) ⌝ }
+{
+    let end = emit::put_short_counted(&*s, place, out, to);
+    if end != 0 {
+        return end;
+    }
+    let bytes = answer::part(&*s, PlaceAnswer::Value(place));
+    let t = emit::put_le(out, to, 1 + 256 * (bytes.len() as u64 % 256), 2);
+    emit::put_part(&*s, place, out, t)
 }
 
 // The same with no count.
@@ -35,7 +44,7 @@ fn put_opt_part(s: &[u8], place: PlaceAnswer, out: &mut [u8], to: usize) -> usiz
     match place {
         PlaceAnswer::Value(p) => {
             let t = emit::put_u8(out, to, 1);
-            emit::put_bytes(answer::part(s, PlaceAnswer::Value(p)), out, t)
+            emit::put_part(&*s, p, out, t)
         }
         PlaceAnswer::Refused(_) => emit::put_u8(out, to, 0),
     }
@@ -45,14 +54,14 @@ fn put_opt_part(s: &[u8], place: PlaceAnswer, out: &mut [u8], to: usize) -> usiz
 pub fn put_opt_guid(s: &[u8], lib: TypeLib, offset: u32, out: &mut [u8], to: usize) -> usize
     ensures { λ r. ⌜ Emitted (value (encode (opt guid) (guidOf (now (s .entry)) lib offset))) (put to) (now (out .entry)) (put r) (now (out .exit)) ⌝ }
 {
-    put_opt_part(s, lib.guid_at(s, offset), out, to)
+    put_opt_part(&*s, lib.guid_at(&*s, offset), out, to)
 }
 
 // The name at an offset.
 pub fn put_opt_name(s: &[u8], lib: TypeLib, offset: u32, out: &mut [u8], to: usize) -> usize
     ensures { λ r. ⌜ Emitted (value (encode (opt name) (nameOf (now (s .entry)) lib offset))) (put to) (now (out .entry)) (put r) (now (out .exit)) ⌝ }
 {
-    put_opt_counted(s, lib.name_at(s, offset), out, to)
+    put_opt_counted(&*s, lib.name_at(&*s, offset), out, to)
 }
 
 // A member's name: missing where its offset is.
@@ -62,7 +71,7 @@ pub fn put_name_by(s: &[u8], lib: TypeLib, offset: I32Answer, out: &mut [u8], to
     let I32Answer::Value(x) = offset else {
         return emit::put_u8(out, to, 0);
     };
-    put_opt_counted(s, lib.name_bytes(s, x), out, to)
+    put_opt_counted(&*s, lib.name_bytes(&*s, x), out, to)
 }
 
 // A member's identifier.

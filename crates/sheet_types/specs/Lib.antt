@@ -1,2 +1,3 @@
 -- The bytes of the parts of a type.
+pub mod Bodies
 pub mod Types

@@ -18,8 +18,8 @@ ghost use Rattle.sheet_types.specs.Types.{headBytes, namesBytes};
 pub fn put_type_of(s: &[u8], lib: TypeLib, index: usize, out: &mut [u8], to: usize) -> usize
     ensures { λ r. ⌜ Emitted (map (encode (typeInfo edition-one (lib .count))) (typeOf (now (s .entry)) lib index)) (put to) (now (out .entry)) (put r) (now (out .exit)) ⌝ }
 {
-    match lib.typeinfo(s, TypeInfoIndex(index)) {
-        TypeInfoAnswer::Value(ti) => put_type(s, lib, ti, out, to),
+    match lib.typeinfo(&*s, TypeInfoIndex(index)) {
+        TypeInfoAnswer::Value(ti) => put_type(&*s, lib, ti, out, to),
         TypeInfoAnswer::Refused(n) => emit::put_refusal(to, n),
     }
 }
@@ -27,12 +27,12 @@ pub fn put_type_of(s: &[u8], lib: TypeLib, index: usize, out: &mut [u8], to: usi
 fn put_type(s: &[u8], lib: TypeLib, ti: TypeInfoEntry, out: &mut [u8], to: usize) -> usize
     ensures { λ r. ⌜ Emitted (map (encode (typeInfo edition-one (lib .count))) (typeAt (now (s .entry)) lib ti)) (put to) (now (out .entry)) (put r) (now (out .exit)) ⌝ }
 {
-    let kind = util::bits(emit::word_at(s, ti.at, 0x00), 0, 4);
-    let t = put_head(s, ti.at, kind, out, to);
-    let t = put_names(s, lib, ti.at, out, t);
-    let t = sheet_bases::put_base(s, lib, ti, kind, out, t);
-    let t = functions::put_functions(s, lib, ti, out, t);
-    variables::put_variables(s, lib, ti, out, t)
+    let kind = util::bits(emit::word_at(&*s, ti.at, 0x00), 0, 4);
+    let t = put_head(&*s, ti.at, kind, out, to);
+    let t = put_names(&*s, lib, ti.at, out, t);
+    let t = sheet_bases::put_base(&*s, lib, ti, kind, out, t);
+    let t = functions::put_functions(&*s, lib, ti, out, t);
+    variables::put_variables(&*s, lib, ti, out, t)
 }
 
 // The kind, the flags and the version.
@@ -40,17 +40,17 @@ fn put_head(s: &[u8], at: usize, kind: u32, out: &mut [u8], to: usize) -> usize
     ensures { λ r. ⌜ Emitted (value (headBytes (now (s .entry)) at kind)) (put to) (now (out .entry)) (put r) (now (out .exit)) ⌝ }
 {
     let t = emit::put_le(out, to, kind as u64, 1);
-    let t = emit::copy_u32(s, at, 0x30, out, t);
-    emit::copy_u32(s, at, 0x38, out, t)
+    let t = emit::copy_u32(&*s, at, 0x30, out, t);
+    emit::copy_u32(&*s, at, 0x38, out, t)
 }
 
 // The GUID, the name, and how many functions and variables are declared.
 fn put_names(s: &[u8], lib: TypeLib, at: usize, out: &mut [u8], to: usize) -> usize
     ensures { λ r. ⌜ Emitted (value (namesBytes (now (s .entry)) lib at)) (put to) (now (out .entry)) (put r) (now (out .exit)) ⌝ }
 {
-    let declared = emit::word_at(s, at, 0x18);
-    let t = values::put_opt_guid(s, lib, emit::word_at(s, at, 0x2C), out, to);
-    let t = values::put_opt_name(s, lib, emit::word_at(s, at, 0x34), out, t);
+    let declared = emit::word_at(&*s, at, 0x18);
+    let t = values::put_opt_guid(&*s, lib, emit::word_at(&*s, at, 0x2C), out, to);
+    let t = values::put_opt_name(&*s, lib, emit::word_at(&*s, at, 0x34), out, t);
     let t = emit::put_le(out, t, util::bits(declared, 0, 16) as u64, 2);
     emit::put_le(out, t, util::bits(declared, 16, 16) as u64, 2)
 }

@@ -56,10 +56,10 @@ returns-2 : tie.Need-returns-2 Inv-loop μ-loop
 returns-2 c = (left-none (c .before .before .before .before .loop .inv .0) (laid-none (funcStep (c .before .before .before .before .before .before .before .before .args .s .now)) (λ (x : FuncCursor). x .remaining) _ _ _ (tells toldFuncStep (c .enum-told .given .1) (c .before .before .step .ensures))), λ h. counted-none (funcStep (c .before .before .before .before .before .before .before .before .args .s .now)) (λ (x : FuncCursor). x .remaining) _ _ (tells toldFuncStep (c .enum-told .given .1) (c .before .before .step .ensures)) (c .before .before .before .before .loop .inv .3))
 
 word-requires : tie.Need-word-requires Inv-loop μ-loop
-word-requires c κs = c .before .before .before .before .before .before .func-rows .ensures .memids-inside
+word-requires c κs = search needs
 
 word-requires-2 : tie.Need-word-requires-2 Inv-loop μ-loop
-word-requires-2 c κs = c .before .before .before .before .before .before .before .func-rows .ensures .names-inside
+word-requires-2 c κs = search needs
 
 put-function-requires : tie.Need-put-function-requires Inv-loop μ-loop
 put-function-requires c κs = let s = c .before .before .before .before .before .before .before .before .before .before .before .before .args .s .now in let ti = c .before .before .before .before .before .before .before .before .before .before .before .before .args .ti in let i = c .before .before .before .before .before .before .before .before .loop .i in let r = c .before .before .before .before .before .before .before .before .before .func-rows .result in (ap found (c .before .before .word .ensures) ∙ found-signed (orNine (read 4 s (r .memids + 4 * i))) (funcMemid s ti i) (c .before .before .before .before .before .before .before .before .before .func-rows .ensures .memids-are i), ap found (c .before .word2 .ensures) ∙ found-signed (orNine (read 4 s (r .names + 4 * i))) (funcNameOffset s ti i) (c .before .before .before .before .before .before .before .before .before .func-rows .ensures .names-are i))

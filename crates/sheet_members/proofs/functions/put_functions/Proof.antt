@@ -18,8 +18,8 @@ put-u16-requires c κs = search needs
 put-each-requires : tie.Need-put-each-requires
 put-each-requires c κs = search needs
 
-put-le-requires : tie.Need-put-le-requires
-put-le-requires c κs = search needs
+overwrite-requires : tie.Need-overwrite-requires
+overwrite-requires c κs = search needs
 
 enum-told : tie.Need-enum-told
 enum-told c = search needs
@@ -31,7 +31,7 @@ same-length : tie.Need-same-length
 same-length c = search needs
 
 returns : tie.Need-returns
-returns c = known (functions-some _ _ _ _ (c .before .before .before .before .before .before .before .before .before .before .before .before .before .before .before .funcs .ensures) (ap toldFuncs (c .before .before .before .before .before .before .before .before .before .before .before .before .before .cursor .given .1)) refl) (counted (c .before .before .before .before .before .before .put-each .ensures .1) (c .before .before .before .before .before .before .before .before .before .before .put-u16 .ensures) (c .before .before .before .before .before .before .put-each .ensures .0) (c .before .before .put-le .ensures))
+returns c = known (functions-some _ _ _ _ (c .before .before .before .before .before .before .before .before .before .before .before .before .before .before .before .funcs .ensures) (ap toldFuncs (c .before .before .before .before .before .before .before .before .before .before .before .before .before .cursor .given .1)) refl) (counted (c .before .before .before .before .before .before .put-each .ensures .1) (c .before .before .before .before .before .before .before .before .before .before .put-u16 .ensures) (c .before .before .before .before .before .before .put-each .ensures .0) (c .before .before .overwrite .ensures))
 
 same-length-2 : tie.Need-same-length-2
 same-length-2 c = search needs
@@ -47,7 +47,7 @@ put-functions-spec =
     enum-known-cursor
     put-u16-requires
     put-each-requires
-    put-le-requires
+    overwrite-requires
     enum-told
     put-u16-requires-2
     same-length

@@ -11,11 +11,14 @@ use borrow.Author.Needs.{needs}
 use Rattle.sheet_members.proofs.words.word.Statement.{statement}
 use Rattle.sheet_members.proofs.words.word.Tie as tie
 
-sub-if1 : tie.Need-sub-if1
-sub-if1 c = search needs
-
 returns : tie.Need-returns
 returns c = ap signed32 (word-beyond _ _ (omega arith))
+
+sub-if2 : tie.Need-sub-if2
+sub-if2 c = search needs
+
+returns-2 : tie.Need-returns-2
+returns-2 c = ap signed32 (word-beyond _ _ (omega arith))
 
 mul-u32-or-zero : tie.Need-mul-u32-or-zero
 mul-u32-or-zero c = search needs
@@ -29,17 +32,18 @@ u32-or-zero-requires c κs = search needs
 signed32-requires : tie.Need-signed32-requires
 signed32-requires c κs = search needs
 
-returns-2 : tie.Need-returns-2
-returns-2 c = map-value (toZ w32) _ _ _ (ap value (c .before .u32-or-zero .ensures) ∙ word-there _ _ (omega arith)) (toZ-ofZ w32 _ (record { sfits = c .signed32 .ok }) ∙ c .signed32 .ensures)
+returns-3 : tie.Need-returns-3
+returns-3 c = map-value (toZ w32) _ _ _ (ap value (c .before .u32-or-zero .ensures) ∙ word-there _ _ (omega arith)) (toZ-ofZ w32 _ (record { sfits = c .signed32 .ok }) ∙ c .signed32 .ensures)
 
 pub word-spec : {M : Type 1} → statement M
 word-spec =
     tie.close
     (tie.spec
-    sub-if1
     returns
+    sub-if2
+    returns-2
     mul-u32-or-zero
     add-u32-or-zero
     u32-or-zero-requires
     signed32-requires
-    returns-2)
+    returns-3)

@@ -1,5 +1,5 @@
-use Rattle.emit.specs.Laws.{known, join}
 use Rattle.sheet_trees.proofs.PartLaws.{counted-some, part-none}
+use Rattle.emit.specs.Laws.{known}
 use borrow.Author.Needs.{needs}
 use Rattle.sheet_trees.proofs.values.put_opt_counted.Statement.{statement}
 use Rattle.sheet_trees.proofs.values.put_opt_counted.Tie as tie
@@ -7,20 +7,8 @@ use Rattle.sheet_trees.proofs.values.put_opt_counted.Tie as tie
 enum-known-place : tie.Need-enum-known-place
 enum-known-place c = search needs
 
-part-requires : tie.Need-part-requires
-part-requires c κs = search needs
-
-mul-put-le : tie.Need-mul-put-le
-mul-put-le c = search needs
-
-add-put-le : tie.Need-add-put-le
-add-put-le c = search needs
-
-put-le-requires : tie.Need-put-le-requires
-put-le-requires c κs = search needs
-
-put-bytes-requires : tie.Need-put-bytes-requires
-put-bytes-requires c κs = search needs
+put-counted-requires : tie.Need-put-counted-requires
+put-counted-requires c κs = search needs
 
 enum-told : tie.Need-enum-told
 enum-told c = search needs
@@ -32,7 +20,7 @@ same-length : tie.Need-same-length
 same-length c = search needs
 
 returns : tie.Need-returns
-returns c = known (counted-some _ (c .before .before .before .before .before .before .before .before .before .before .place .given .1) (c .before .before .before .before .before .before .before .before .part .ensures)) (join (c .before .before .before .before .before .before .put-le .ensures) (c .before .before .put-bytes .ensures))
+returns c = known (counted-some _ (c .before .before .before .before .before .place .given .1)) (c .before .before .put-counted .ensures)
 
 same-length-2 : tie.Need-same-length-2
 same-length-2 c = search needs
@@ -45,11 +33,7 @@ put-opt-counted-spec =
     tie.close
     (tie.spec
     enum-known-place
-    part-requires
-    mul-put-le
-    add-put-le
-    put-le-requires
-    put-bytes-requires
+    put-counted-requires
     enum-told
     put-u8-requires
     same-length

@@ -1,5 +1,6 @@
-use Rattle.emit.specs.Laws.{known, join}
+use mathlib.Core.Path.{refl}
 use Rattle.sheet_trees.proofs.PartLaws.{part-some, part-none}
+use Rattle.emit.specs.Laws.{known, join}
 use borrow.Author.Needs.{needs}
 use Rattle.sheet_trees.proofs.values.put_opt_part.Statement.{statement}
 use Rattle.sheet_trees.proofs.values.put_opt_part.Tie as tie
@@ -10,11 +11,8 @@ enum-known-place c = search needs
 put-u8-requires : tie.Need-put-u8-requires
 put-u8-requires c κs = search needs
 
-part-requires : tie.Need-part-requires
-part-requires c κs = search needs
-
-put-bytes-requires : tie.Need-put-bytes-requires
-put-bytes-requires c κs = search needs
+put-part-requires : tie.Need-put-part-requires
+put-part-requires c κs = search needs
 
 enum-told : tie.Need-enum-told
 enum-told c = search needs
@@ -26,7 +24,7 @@ same-length : tie.Need-same-length
 same-length c = search needs
 
 returns : tie.Need-returns
-returns c = known (part-some _ (c .before .before .before .before .before .before .before .before .before .before .place .given .1) (c .before .before .before .before .part .ensures)) (join (c .before .before .before .before .before .before .before .put-u8 .ensures) (c .before .before .put-bytes .ensures))
+returns c = known (part-some _ (c .before .before .before .before .before .before .before .before .before .place .given .1) refl) (join (c .before .before .before .before .before .before .put-u8 .ensures) (c .before .before .put-part .ensures))
 
 same-length-2 : tie.Need-same-length-2
 same-length-2 c = search needs
@@ -40,8 +38,7 @@ put-opt-part-spec =
     (tie.spec
     enum-known-place
     put-u8-requires
-    part-requires
-    put-bytes-requires
+    put-part-requires
     enum-told
     put-u8-requires-2
     same-length
