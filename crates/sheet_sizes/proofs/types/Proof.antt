@@ -1,0 +1,55 @@
+use borrow.Author.Needs.{needs}
+use native.Mathlib.Omega.{arith}
+use Prim.Native.Nat.{_-_}
+use mathlib.Core.Path.{_≡_}
+use mathlib.Core.List.{[]}
+use Rattle.emit.specs.Emit.{put}
+use Rattle.emit.specs.Laws.{Left, left-all, left-less, left-none, refused-stays, known}
+use Rattle.sheet_types.specs.Bodies.{bodies, bodies-all, bodies-more, bodies-none}
+use Rattle.sheet_sizes.proofs.types.Statement.{statement}
+use Rattle.sheet_sizes.proofs.types.Tie as tie
+
+abbrev Inv-loop : tie.InvT-loop
+Inv-loop s lib to count t₀ i₀ t i = Left (bodies s lib (lib .count - 0) 0) (put t₀) [] (bodies s lib (lib .count - i) i) (put t) [] × (count ≡ lib .count)
+
+abbrev μ-loop : tie.MeasureT-loop
+μ-loop s lib to count t₀ i₀ t i = count - i
+
+cast-count : tie.Need-cast-count Inv-loop μ-loop
+cast-count c = search needs
+
+loop-holds : tie.Need-loop-holds Inv-loop μ-loop
+loop-holds c = (left-all, search needs)
+
+returns : tie.Need-returns Inv-loop μ-loop
+returns c = known (bodies-all _ _ _) (c .before .before .loop .inv .0 .finish _ _ (refused-stays (c .if1 .taken)))
+
+after-type-of-requires : tie.Need-after-type-of-requires Inv-loop μ-loop
+after-type-of-requires c κs = search needs
+
+add-i : tie.Need-add-i Inv-loop μ-loop
+add-i c = omega arith
+
+loop-less : tie.Need-loop-less Inv-loop μ-loop
+loop-less c = omega arith
+
+loop-again : tie.Need-loop-again Inv-loop μ-loop
+loop-again c = (left-less (c .before .before .before .loop .inv .0) (c .after-type-of .ensures) (bodies-more _ _ _ _ (omega (arith, c .before .before .loop-test .taken, c .before .before .before .loop .inv .1))), c .before .before .before .loop .inv .1)
+
+returns-2 : tie.Need-returns-2 Inv-loop μ-loop
+returns-2 c = known (bodies-all _ _ _) (left-none (c .before .loop .inv .0) (bodies-none _ _ _ _ (omega (arith, c .loop-test .left, c .before .loop .inv .1))))
+
+pub types-spec : {M : Type 1} → statement M
+types-spec =
+    tie.close
+    (tie.spec
+    Inv-loop
+    μ-loop
+    cast-count
+    loop-holds
+    returns
+    after-type-of-requires
+    add-i
+    loop-less
+    loop-again
+    returns-2)

@@ -1,0 +1,3 @@
+-- Where an emission would end.
+pub mod Measured
+pub mod Room

@@ -1,0 +1,78 @@
+// Functions.
+use crate::names;
+use crate::parameters;
+use crate::trees;
+use cursors::iterators;
+use cursors::iterators::FuncCursor;
+use cursors::iterators::FuncStep;
+use cursors::iterators::FuncsAnswer;
+use records::answer::I32Answer;
+use records::func::FuncRecord;
+use records::typeinfo::TypeInfoEntry;
+use sheet_members::words;
+use typelib::TypeLib;
+ghost use mathlib.Core.Path.{_≡_};
+ghost use Prim.Native.Nat.{ℕ};
+ghost use Rattle.records.specs.Answer.{value, map};
+ghost use Rattle.records.specs.Record.{signed32};
+ghost use Rattle.records.specs.Told.{toldI32};
+ghost use Rattle.typelib.specs.TypeInfos.{funcMemid, funcNameOffset};
+ghost use Rattle.cursors.specs.Cursors.{funcStep};
+ghost use Rattle.description.specs.Format.{encode, list};
+ghost use Rattle.description.specs.Sheet.{edition-one, u16, function};
+ghost use Rattle.describe.specs.Values.{found, all, numbered};
+ghost use Rattle.describe.specs.Members.{yields, functionOf, functionsOf};
+ghost use Rattle.sheet_members.specs.Lists.{layAll};
+ghost use Rattle.sheet_sizes.specs.Measured.{Measured};
+
+// The functions of a type: their count, and each.
+pub(crate) fn after_functions(s: &[u8], lib: TypeLib, ti: TypeInfoEntry, to: usize) -> usize
+    ensures { λ r. ⌜ Measured (map (encode (list u16 (function edition-one (lib .count)))) (all (functionsOf (now (s .entry)) lib ti))) to r ⌝ }
+{
+    match iterators::funcs(&*s, ti) {
+        FuncsAnswer::Value(cursor) => after_each(&*s, lib, ti, cursor, crate::ahead(to, 2)),
+        FuncsAnswer::Refused(_) => crate::ahead(to, 2),
+    }
+}
+
+// Each function that the cursor yields. (A refusal ends it at once: it stays.)
+fn after_each(s: &[u8], lib: TypeLib, ti: TypeInfoEntry, cursor: FuncCursor, to: usize) -> usize
+    ensures { λ r. ⌜ Measured (layAll (function edition-one (lib .count)) (numbered (functionOf (now (s .entry)) lib ti) 0 (yields (funcStep (now (s .entry))) (cursor .remaining) cursor))) to r ⌝ }
+{
+    let rows = words::func_rows(&*s, ti);
+    let mut t = to;
+    let mut c = cursor;
+    let mut i: usize = 0;
+    loop {
+        if emit::PAST < t {
+            return t;
+        }
+        let FuncStep::Record(func, next) = c.step(&*s) else {
+            return t;
+        };
+        let memid = words::word(&*s, rows.memids, i);
+        let name_offset = words::word(&*s, rows.names, i);
+        t = after_function(&*s, lib, memid, name_offset, func, t);
+        c = next;
+        i += 1;
+    }
+}
+
+// A function, with its identifier and the offset of its name: of any type, at any index, that have these two.
+fn after_function(
+    s: &[u8],
+    lib: TypeLib,
+    memid: I32Answer,
+    name_offset: I32Answer,
+    func: FuncRecord,
+    to: usize,
+) -> usize
+    ensures { λ r. ⌜ ((ti : TypeInfoEntry) (i : ℕ) → found (toldI32 memid) ≡ found (signed32 (funcMemid (now (s .entry)) ti i)) → found (toldI32 «name_offset») ≡ found (signed32 (funcNameOffset (now (s .entry)) ti i)) → Measured (map (encode (function edition-one (lib .count))) (functionOf (now (s .entry)) lib ti i (record { at = func .at; len = func .len }))) to r) ⌝ }
+{
+    let t = names::after_memid(memid, to);
+    let t = names::after_name_by(&*s, lib, name_offset, t);
+    let t = trees::after_tree(&*s, lib, emit::word_at(s, func.at, 0x04), t);
+    // the words of the record from 0x08 on
+    let t = crate::ahead(t, 14);
+    parameters::after_parameters(&*s, lib, func, t)
+}

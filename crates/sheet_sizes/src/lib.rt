@@ -1,0 +1,81 @@
+// Where the types of a sheet would end. A sheet is measured before it is written; this is the traversal of the emitters, but it
+// makes no bytes and only counts them, which takes a fraction of their time.
+use records::typeinfo::TypeInfoEntry;
+use typelib::TypeInfoIndex;
+use typelib::TypeLib;
+use typelib::typeinfos::TypeInfoAnswer;
+ghost use Rattle.records.specs.Answer.{value, map};
+ghost use Rattle.description.specs.Format.{encode};
+ghost use Rattle.description.specs.Sheet.{edition-one, typeInfo};
+ghost use Rattle.describe.specs.Types.{typeAt, typeOf, typesFrom};
+ghost use Rattle.sheet_members.specs.Lists.{layAll};
+ghost use Rattle.sheet_types.specs.Types.{namesBytes};
+ghost use Rattle.sheet_sizes.specs.Measured.{Measured, Counted};
+
+mod functions;
+mod names;
+mod parameters;
+mod trees;
+mod variables;
+
+// All types of the library, from `to` on. (A refusal ends it at once: it stays.)
+pub fn types(s: &[u8], lib: TypeLib, to: usize) -> usize
+    ensures { λ r. ⌜ Measured (layAll (typeInfo edition-one (lib .count)) (typesFrom (now (s .entry)) lib (lib .count) 0)) to r ⌝ }
+{
+    let count = lib.count as usize;
+    let mut t = to;
+    let mut i: usize = 0;
+    while i < count {
+        if emit::PAST < t {
+            return t;
+        }
+        t = after_type_of(&*s, lib, i, t);
+        i += 1;
+    }
+    t
+}
+
+// Type `index` of the library; 6, 7 or 8 where there is none.
+fn after_type_of(s: &[u8], lib: TypeLib, index: usize, to: usize) -> usize
+    ensures { λ r. ⌜ Measured (map (encode (typeInfo edition-one (lib .count))) (typeOf (now (s .entry)) lib index)) to r ⌝ }
+{
+    match lib.typeinfo(&*s, TypeInfoIndex(index)) {
+        TypeInfoAnswer::Value(ti) => after_type(&*s, lib, ti, to),
+        TypeInfoAnswer::Refused(n) => emit::put_refusal(to, n),
+    }
+}
+
+// A type. (What it is based on is measured by its emitter, over an output with no room.)
+fn after_type(s: &[u8], lib: TypeLib, ti: TypeInfoEntry, to: usize) -> usize
+    ensures { λ r. ⌜ Measured (map (encode (typeInfo edition-one (lib .count))) (typeAt (now (s .entry)) lib ti)) to r ⌝ }
+{
+    let kind = util::bits(emit::word_at(s, ti.at, 0x00), 0, 4);
+    // the kind, the flags and the version
+    let t = ahead(to, 9);
+    let t = after_names(&*s, lib, ti.at, t);
+    let mut none = [0u8; 0];
+    let t = sheet_bases::put_base(&*s, lib, ti, kind, &mut none, t);
+    let t = functions::after_functions(&*s, lib, ti, t);
+    variables::after_variables(&*s, lib, ti, t)
+}
+
+// The GUID, the name, and how many functions and variables are declared.
+fn after_names(s: &[u8], lib: TypeLib, at: usize, to: usize) -> usize
+    ensures { λ r. ⌜ Measured (value (namesBytes (now (s .entry)) lib at)) to r ⌝ }
+{
+    let t = names::after_guid(&*s, lib, emit::word_at(s, at, 0x2C), to);
+    let t = names::after_name(&*s, lib, emit::word_at(s, at, 0x34), t);
+    ahead(t, 4)
+}
+
+// The place `n` bytes on. It stops at the last place, and a refusal stays.
+pub(crate) fn ahead(to: usize, n: usize) -> usize
+    ensures { λ r. ⌜ Counted n to r ⌝ }
+{
+    if n <= emit::PAST {
+        if to <= emit::PAST - n {
+            return to + n;
+        }
+    }
+    if to < emit::PAST { emit::PAST } else { to }
+}

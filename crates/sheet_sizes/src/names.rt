@@ -1,0 +1,52 @@
+// Names, identifiers and GUIDs that may be missing: one byte for nothing, or one more than the value has.
+use records::answer::I32Answer;
+use records::answer::PlaceAnswer;
+use typelib::TypeLib;
+ghost use mathlib.Core.Path.{_≡_};
+ghost use Rattle.records.specs.Answer.{value};
+ghost use Rattle.records.specs.Told.{toldI32};
+ghost use Rattle.description.specs.Format.{encode, opt};
+ghost use Rattle.description.specs.Sheet.{u32, guid, name};
+ghost use Rattle.describe.specs.References.{guidOf};
+ghost use Rattle.describe.specs.Members.{nameOf, nameBy, memidBy};
+ghost use Rattle.sheet_sizes.specs.Measured.{Measured};
+
+// The GUID at an offset.
+pub(crate) fn after_guid(s: &[u8], lib: TypeLib, offset: u32, to: usize) -> usize
+    ensures { λ r. ⌜ Measured (value (encode (opt guid) (guidOf (now (s .entry)) lib offset))) to r ⌝ }
+{
+    match lib.guid_at(&*s, offset) {
+        PlaceAnswer::Value(_) => crate::ahead(to, 17),
+        PlaceAnswer::Refused(_) => crate::ahead(to, 1),
+    }
+}
+
+// The name at an offset, behind its length in one byte.
+pub(crate) fn after_name(s: &[u8], lib: TypeLib, offset: u32, to: usize) -> usize
+    ensures { λ r. ⌜ Measured (value (encode (opt name) (nameOf (now (s .entry)) lib offset))) to r ⌝ }
+{
+    match lib.name_at(&*s, offset) {
+        PlaceAnswer::Value(p) => crate::ahead(to, 2 + p.len),
+        PlaceAnswer::Refused(_) => crate::ahead(to, 1),
+    }
+}
+
+// A member's name: missing where its offset is.
+pub(crate) fn after_name_by(s: &[u8], lib: TypeLib, offset: I32Answer, to: usize) -> usize
+    ensures { λ r. ⌜ Measured (value (encode (opt name) (nameBy (now (s .entry)) lib (toldI32 offset)))) to r ⌝ }
+{
+    match offset {
+        I32Answer::Value(x) => after_name(&*s, lib, util::unsigned32(x), to),
+        I32Answer::Refused(_) => crate::ahead(to, 1),
+    }
+}
+
+// A member's identifier.
+pub(crate) fn after_memid(memid: I32Answer, to: usize) -> usize
+    ensures { λ r. ⌜ Measured (value (encode (opt u32) (memidBy (toldI32 memid)))) to r ⌝ }
+{
+    match memid {
+        I32Answer::Value(_) => crate::ahead(to, 5),
+        I32Answer::Refused(_) => crate::ahead(to, 1),
+    }
+}

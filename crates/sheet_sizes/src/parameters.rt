@@ -1,0 +1,76 @@
+// Parameters.
+use crate::names;
+use crate::trees;
+use cursors::iterators;
+use cursors::iterators::ParamCursor;
+use cursors::iterators::ParamsAnswer;
+use records::answer::I32Answer;
+use records::func::FuncRecord;
+use typelib::TypeLib;
+ghost use mathlib.Core.Path.{_≡_};
+ghost use Rattle.records.specs.Answer.{value, map};
+ghost use Rattle.records.specs.Told.{toldI32};
+ghost use Rattle.cursors.specs.Cursors.{paramStep};
+ghost use Rattle.description.specs.Format.{encode, opt, list};
+ghost use Rattle.description.specs.Sheet.{edition-one, u16, constant, parameter};
+ghost use Rattle.describe.specs.Values.{all, numbered};
+ghost use Rattle.describe.specs.Members.{yields, constantBy, parameterOf, parametersOf};
+ghost use Rattle.sheet_members.specs.Lists.{layAll};
+ghost use Rattle.sheet_sizes.specs.Measured.{Measured};
+ghost use Rattle.sheet_sizes.specs.Room.{Room};
+
+// The parameters of a function: their count, and each.
+pub(crate) fn after_parameters(s: &[u8], lib: TypeLib, func: FuncRecord, to: usize) -> usize
+    ensures { λ r. ⌜ Measured (map (encode (list u16 (parameter edition-one (lib .count)))) (all (parametersOf (now (s .entry)) lib func))) to r ⌝ }
+{
+    match iterators::params(&*s, func) {
+        ParamsAnswer::Value(cursor) => after_each(&*s, lib, func, cursor, crate::ahead(to, 2)),
+        ParamsAnswer::Refused(_) => crate::ahead(to, 2),
+    }
+}
+
+// Each parameter that the cursor yields. They lie in the function's record, so it is not asked for each of them.
+fn after_each(s: &[u8], lib: TypeLib, func: FuncRecord, cursor: ParamCursor, to: usize) -> usize
+    requires { ⌜ Room (now s) cursor ⌝ }
+    ensures { λ r. ⌜ Measured (layAll (parameter edition-one (lib .count)) (numbered (parameterOf (now (s .entry)) lib func) 0 (yields (paramStep (now (s .entry))) (cursor .remaining) cursor))) to r ⌝ }
+{
+    let mut t = to;
+    let mut i: usize = 0;
+    while i < cursor.remaining {
+        t = after_parameter(&*s, lib, func, i, cursor.pos + 12 * i, t);
+        i += 1;
+    }
+    t
+}
+
+// Parameter `index` of `func`, at `at`. It has a default value where its flags have 0x20.
+fn after_parameter(
+    s: &[u8],
+    lib: TypeLib,
+    func: FuncRecord,
+    index: usize,
+    at: usize,
+    to: usize,
+) -> usize
+    ensures { λ r. ⌜ Measured (map (encode (parameter edition-one (lib .count))) (parameterOf (now (s .entry)) lib func index (record { at = at; len = 12 }))) to r ⌝ }
+{
+    let flags = emit::word_at(s, at, 0x08);
+    let field = emit::word_at(s, at, 0x00);
+    let t = trees::after_tree(&*s, lib, field, to);
+    let t = names::after_name(&*s, lib, emit::word_at(s, at, 0x04), t);
+    if flags / 0x20 % 2 == 1 {
+        let offset = func.default_value_offset(&*s, index);
+        after_default(&*s, lib, offset, crate::ahead(t, 4))
+    } else {
+        // the flags, and one byte for a missing default
+        crate::ahead(t, 5)
+    }
+}
+
+// A default value, by the emitter over an output with no room: few parameters have one.
+fn after_default(s: &[u8], lib: TypeLib, offset: I32Answer, to: usize) -> usize
+    ensures { λ r. ⌜ Measured (value (encode (opt constant) (constantBy (now (s .entry)) lib (toldI32 offset)))) to r ⌝ }
+{
+    let mut none = [0u8; 0];
+    sheet_members::parameters::put_constant_by(&*s, lib, offset, &mut none, to)
+}

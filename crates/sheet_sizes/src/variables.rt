@@ -1,0 +1,84 @@
+// Variables.
+use crate::names;
+use crate::trees;
+use cursors::iterators;
+use cursors::iterators::VarCursor;
+use cursors::iterators::VarStep;
+use cursors::iterators::VarsAnswer;
+use records::typeinfo::TypeInfoEntry;
+use records::var::VarRecord;
+use typelib::TypeLib;
+ghost use mathlib.Core.Path.{_≡_};
+ghost use Rattle.records.specs.Answer.{value, map};
+ghost use Rattle.cursors.specs.Cursors.{varStep};
+ghost use Rattle.description.specs.Format.{encode, list};
+ghost use Rattle.description.specs.Description.{isConstant};
+ghost use Rattle.description.specs.Sheet.{edition-one, u16, variable};
+ghost use Rattle.describe.specs.Values.{all, numbered};
+ghost use Rattle.describe.specs.Members.{yields, valueWith, variableOf, variablesOf};
+ghost use Rattle.sheet_members.specs.Lists.{layAll};
+ghost use Rattle.sheet_members.specs.Words.{valueBytes};
+ghost use Rattle.sheet_sizes.specs.Measured.{Measured};
+
+// The variables of a type: their count, and each.
+pub(crate) fn after_variables(s: &[u8], lib: TypeLib, ti: TypeInfoEntry, to: usize) -> usize
+    ensures { λ r. ⌜ Measured (map (encode (list u16 (variable edition-one (lib .count)))) (all (variablesOf (now (s .entry)) lib ti))) to r ⌝ }
+{
+    match iterators::vars(&*s, ti) {
+        VarsAnswer::Value(cursor) => after_each(&*s, lib, ti, cursor, crate::ahead(to, 2)),
+        VarsAnswer::Refused(_) => crate::ahead(to, 2),
+    }
+}
+
+// Each variable that the cursor yields. (A refusal ends it at once: it stays.)
+fn after_each(s: &[u8], lib: TypeLib, ti: TypeInfoEntry, cursor: VarCursor, to: usize) -> usize
+    ensures { λ r. ⌜ Measured (layAll (variable edition-one (lib .count)) (numbered (variableOf (now (s .entry)) lib ti) 0 (yields (varStep (now (s .entry))) (cursor .remaining) cursor))) to r ⌝ }
+{
+    let mut t = to;
+    let mut c = cursor;
+    let mut i: usize = 0;
+    loop {
+        if emit::PAST < t {
+            return t;
+        }
+        let VarStep::Record(var, next) = c.step(&*s) else {
+            return t;
+        };
+        t = after_variable(&*s, lib, ti, i, var, t);
+        c = next;
+        i += 1;
+    }
+}
+
+// Variable `index` of `ti`.
+fn after_variable(
+    s: &[u8],
+    lib: TypeLib,
+    ti: TypeInfoEntry,
+    index: usize,
+    var: VarRecord,
+    to: usize,
+) -> usize
+    ensures { λ r. ⌜ Measured (map (encode (variable edition-one (lib .count))) (variableOf (now (s .entry)) lib ti index (record { at = var .at; len = var .len }))) to r ⌝ }
+{
+    let varkind = emit::half_at(s, var.at, 0x0C);
+    let word = emit::word_at(s, var.at, 0x10);
+    let t = names::after_memid(lib.var_memid(&*s, ti, index), to);
+    let t = names::after_name_by(&*s, lib, lib.var_name_offset(&*s, ti, index), t);
+    let t = trees::after_nested(&*s, lib, emit::word_at(s, var.at, 0x04), t);
+    // the word at 0x08 and the kind
+    let t = crate::ahead(t, 6);
+    after_value(&*s, lib, varkind, word, t)
+}
+
+// The word at 0x10: a constant where 0x0C holds 2. (It is measured by its emitter, over an output with no room.)
+fn after_value(s: &[u8], lib: TypeLib, varkind: u16, word: u32, to: usize) -> usize
+    ensures { λ r. ⌜ Measured (value (valueBytes (isConstant varkind) (valueWith (now (s .entry)) lib (isConstant varkind) word))) to r ⌝ }
+{
+    if varkind == 2 {
+        let mut none = [0u8; 0];
+        sheet_constants::put_opt_constant(&*s, lib, word, &mut none, to)
+    } else {
+        crate::ahead(to, 4)
+    }
+}
