@@ -1,19 +1,18 @@
 -- A whole call: it parses, measures, and then writes into a part of the output of just that size. Assumes nothing.
 use mathlib.Core.Path.{_≡_, refl, sym, ap, _∙_}
-use mathlib.Core.Bool.{Bool, true, cond, _&&_}
-use mathlib.Core.List.{List, [], _∷_, _++_, append-nil}
+use mathlib.Core.List.{List, [], _∷_, _++_}
 use Prim.Native.Nat.{ℕ, suc, _+_, _-_, _%_, _≤_, _<_, min, max}
 use native.Mathlib.Nat.{zero-add}
 use native.Mathlib.Omega.{arith}
 use lib.ListN.{length, take, drop}
-use lib.Seq.{sets, sets-eq, length-take-le, drop-length}
+use lib.Seq.{take-nil, length-take-le}
 use borrow.Author.Tests.{le-leb, lt-leb, lt-ltb, le-ltb}
 use Rattle.records.specs.Answer.{Answer, value, refused, map, bind}
 use Rattle.records.specs.Record.{limit}
 use Rattle.typelib.specs.declared.TypeLib.{TypeLib}
 use Rattle.typelib.specs.declared.Parsed.{Parsed}
 use Rattle.typelib.specs.Header.{parseOf, parsed}
-use Rattle.description.specs.Description.{Bytes, Library}
+use Rattle.description.specs.Description.{Bytes}
 use Rattle.description.specs.Sheet.{edition-one, sheetBytes}
 use Rattle.describe.specs.Describe.{headerOf, typesOf, describeAs, describe}
 use Rattle.describe.specs.Answers.{answers-refused}
@@ -21,15 +20,11 @@ use Rattle.describe.specs.Refusals.{parse-sound}
 use Rattle.describe.specs.Call.{within, sheetOf, written, Call}
 use Rattle.emit.specs.Emit.{Put}
 use Rattle.emit.specs.Emit.{At, Refused, past, put}
-use Rattle.emit.specs.Laws.{put-at, put-refused}
+use Rattle.emit.specs.Laws.{put-at, put-refused, filled}
 use Rattle.emit.specs.Emit.{advance, moved, Emitted}
-use Rattle.sheet.specs.Contents.{sheetEmitted, Answered}
+use Rattle.sheet.specs.Contents.{sheetEmitted, Answered, Made}
 
 -- ---- measuring and writing
-
--- a run that fills the list
-filled : (bs l : List ℕ) → length bs ≡ length l → sets l 0 bs ≡ bs
-filled bs l h = sets-eq bs l 0 (omega arith) ∙ rw (zero-add (length bs), h, drop-length l) (append-nil bs)
 
 size-of : (bs : List ℕ) (n : ℕ) → At n ≡ At (advance 0 (length bs)) → n ≡ min (length bs) (suc limit)
 unfolding advance
@@ -76,12 +71,32 @@ module _ (size : ℕ) where
       let k : length bs ≤ limit = omega arith in
       let j : length bs ≤ length o = omega arith in
       let t : length (take size o) ≡ size = length-take-le size o room in
-      let f : e′ ≡ bs = w .lays (omega (arith, k)) (omega (arith, q, t)) ∙ filled bs (take size o) (sym q ∙ sym t) in
+      let f : e′ ≡ bs = filled w k (t ∙ q) in
       record {
         replies = rw (le-leb (length bs) limit k, le-leb (length bs) (length o) j) (ap value q);
         leaves = rw (le-leb (length bs) limit k, le-leb (length bs) (length o) j) (rw (f, q));
       }
   whole-done (refused j) m h room w = absurd (let q : At size ≡ Refused j = sym (put-at size (omega arith)) ∙ first (refused j) m in let z : _≡_ {A = ℕ} 0 1 = cc in omega arith)
+
+  -- an emission of it, and one over no output
+  pub emitted-made : (x : Answer Bytes) {o e : List ℕ} → Emitted x (put 0) o (put size) e → Made x size e
+  emitted-made x {o} {e} w₀ = record { measured = w₀ .moves; made = made x w₀ }
+    where
+      made : (x : Answer Bytes) → Emitted x (put 0) o (put size) e → size ≤ limit → size ≤ length e → value (take size e) ≡ x
+      made (value bs) w₁ h room =
+          let w : Emitted (value bs) (At 0) o (put size) e = rw (put-at 0 (omega arith)) at w₁ in
+          let q : size ≡ length bs = omega (arith, size-of bs size (sym (put-at size (omega arith)) ∙ first (value bs) (w₁ .moves))) in
+          let k : length e ≡ length o = w .keeps in
+          ap value (ap (λ (n : ℕ). take n e) (q ∙ sym (zero-add (length bs))) ∙ w .lays (omega (arith, q)) (omega (arith, q, k)))
+      made (refused j) w₁ h room = absurd (let q : At size ≡ Refused j = sym (put-at size (omega arith)) ∙ first (refused j) (w₁ .moves) in let z : _≡_ {A = ℕ} 0 1 = cc in omega arith)
+
+  pub measured-made : (x : Answer Bytes) → put size ≡ moved (put 0) x → Made x size []
+  measured-made x m = record { measured = m; made = made x m }
+    where
+      made : (x : Answer Bytes) → put size ≡ moved (put 0) x → size ≤ limit → size ≤ 0 → value (take size []) ≡ x
+      made (value []) m h room = ap value (take-nil size)
+      made (value (b ∷ bs)) m h room = absurd (omega (arith, size-of (b ∷ bs) size (sym (put-at size (omega arith)) ∙ first (value (b ∷ bs)) m)))
+      made (refused j) m h room = absurd (let q : At size ≡ Refused j = sym (put-at size (omega arith)) ∙ first (refused j) m in let z : _≡_ {A = ℕ} 0 1 = cc in omega arith)
 
 -- ---- parsing first
 

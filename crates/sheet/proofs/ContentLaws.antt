@@ -1,18 +1,18 @@
 -- Contents and bodies, written in another order than they are laid out, are the sheet. Assumes nothing.
 use mathlib.Core.Path.{_≡_, refl, sym, ap, ap₂, _∙_}
-use mathlib.Core.List.{List, [], _∷_, _++_, append-assoc}
+use mathlib.Core.List.{List, [], _∷_, _++_, append-assoc, append-nil}
 use mathlib.Core.List as lists
 use Prim.Native.Nat.{ℕ, zero, suc, _+_, _-_, _*_, _%_, _≤_, _<_, min, max}
+use native.Mathlib.Nat.{zero-add, add-zero}
 use native.Mathlib.Omega.{arith}
-use lib.Dec.{leb}
-use lib.ListN.{length, length-append}
-use lib.Seq.{sets}
-use Rattle.util.specs.Read.{read, orZero, cond-elim}
-use Rattle.records.specs.Answer.{Answer, value, refused, map, bind}
+use lib.ListN.{length, take, length-append}
+use lib.Seq.{sets, length-take-le}
+use Rattle.util.specs.Read.{read, orZero}
+use Rattle.records.specs.Answer.{Answer, value, refused, map}
 use Rattle.records.specs.Record.{limit}
 use Rattle.typelib.specs.declared.TypeLib.{TypeLib}
 use Rattle.description.specs.Format.{Format, encode, opt, joined, leBytes, length-leBytes}
-use Rattle.description.specs.Description.{Bytes, TypeInfo, Header, Library}
+use Rattle.description.specs.Description.{Bytes, TypeInfo, Header}
 use Rattle.description.specs.Sheet.{edition-one, u32, guid, name, header, typeInfo, sheetBytes}
 use Rattle.description.specs.ByteLayout.{sheet-bytes}
 use Rattle.describe.specs.Values.{andThen, all}
@@ -22,9 +22,10 @@ use Rattle.describe.specs.Types.{typeOf, typesFrom}
 use Rattle.describe.specs.Describe.{headerOf}
 use Rattle.emit.specs.Emit.{Put}
 use Rattle.emit.specs.Emit.{At, Refused, past, put}
-use Rattle.emit.specs.Emit.{_▸_, advance, moved, Emitted}
-use Rattle.emit.specs.Laws.{put-at, put-refused, sets-append, sets-comm, advance-within, moved-join, skip, known}
+use Rattle.emit.specs.Emit.{_▸_, advance, moved, Emitted, Overwritten}
+use Rattle.emit.specs.Laws.{put-at, put-refused, place-is, sets-append, sets-append-front, sets-front, take-sets, advance-within, moved-join, skip, known}
 use Rattle.sheet_members.specs.Lists.{layAll, all-laid, Sized, sized, unsized, all-sized}
+use Rattle.sheet_types.specs.Bodies.{bodies, bodies-more}
 use Rattle.sheet.specs.Contents.{sheetEmitted, lenOf, lensOf, Patched, LaidTwo, Twofold}
 
 pub header-is : (s : List ℕ) (lib : TypeLib) {g n : ℕ} → g ≡ orZero (read 4 s (0 + 8)) → n ≡ orZero (read 4 s (0 + 56))
@@ -36,27 +37,18 @@ header-is s lib {g} {n} e f = rw (e, f)
 
 -- ---- a length
 
-at-is : {p q : ℕ} → At p ≡ At q → p ≡ q
-at-is e = cc
-
--- a number that stands for a place is that place
-pub place-is : (n : ℕ) {p : ℕ} → put n ≡ At p → n ≡ p
-unfolding put
-place-is n {p} = cond-elim (λ (t : Put). t ≡ At p → n ≡ p) (leb n past) (At n) (Refused ((n - suc past) % 256)) (λ _ e. at-is e) (λ _ e. absurd (let z : _≡_ {A = ℕ} 0 1 = cc in omega arith))
-
 pub unpatched : (from end : ℕ) {at : ℕ} {o : List ℕ} → ((p q : ℕ) → put from ≡ At p → put end ≡ At q → p ≤ q → ⊥) → Patched (put from) (put end) at o o
 unpatched from end h = record { puts = λ p q e g k m n. absurd (h p q e g k); keeps = refl }
 
 pub past-never : (n : ℕ) {p : ℕ} → past < n → put n ≡ At p → ⊥
 past-never n h e = let q : Refused ((n - suc past) % 256) ≡ At _ = sym (put-refused n h) ∙ e in let z : _≡_ {A = ℕ} 0 1 = cc in omega arith
 
-pub patched : (from end at : ℕ) {r : Put} {o o′ : List ℕ} → Emitted (value (leBytes 4 (end - from))) (put at) o r o′ → Patched (put from) (put end) at o o′
-patched from end at {r} {o} {o′} w =
+pub patched : (from end at : ℕ) {o o′ : List ℕ} → Overwritten (leBytes 4 (end - from)) (put at) o o′ → Patched (put from) (put end) at o o′
+patched from end at w =
     record {
       puts = λ p q e g k m n.
-          let w′ : Emitted (value (leBytes 4 (end - from))) (At at) o r o′ = rw (put-at at (omega (arith, m))) at w in
           rw (← place-is from e, ← place-is end g)
-          (w′ .lays (omega (arith, m, length-leBytes 4 (end - from))) (omega (arith, n, length-leBytes 4 (end - from))));
+          (w .over at (put-at at (omega (arith, m))) (omega (arith, m, length-leBytes 4 (end - from))) (omega (arith, n, length-leBytes 4 (end - from))));
       keeps = w .keeps;
     }
 
@@ -66,7 +58,7 @@ two-none : {c : ℕ} {t : Put} {o : List ℕ} → Twofold (value []) (value []) 
 two-none {c} {t} {o} = record { moves = skip t o .moves; lays = none t; keeps = refl }
   where
     none : (t : Put) → LaidTwo (value []) (value []) c t o o
-    none (At p) = λ h k l. refl
+    none (At p) = λ h k l. rw (add-zero p) (sym (append-nil (take p o)))
     none (Refused m) = tt
 
 two-refused : (ls xs : Answer Bytes) {c : ℕ} {t : Put} {o : List ℕ} {m : ℕ} → t ≡ Refused m → Twofold ls xs c t o t o
@@ -77,15 +69,18 @@ two-refused ls xs {c} {t} {o} {m} e = rw e (record { moves = refl; lays = none l
     none (value ks) (refused n) = tt
     none (refused n) xs = tt
 
-two-laid : (b ks bs o : List ℕ) (c p : ℕ) → c + length (leBytes 4 (length b) ++ ks) ≤ p
-    → sets (sets (sets (sets o p b) c (leBytes 4 (length b))) (c + 4) ks) (p + length b) bs ≡ sets (sets o c (leBytes 4 (length b) ++ ks)) p (b ++ bs)
-two-laid b ks bs o c p h =
+-- what stands before the bodies: the contents, whose first length goes in behind the first body
+before : (b ks o o₁ : List ℕ) (c p : ℕ) → c + length (leBytes 4 (length b) ++ ks) ≤ p → p + length b ≤ length o → take (p + length b) o₁ ≡ take p o ++ b
+    → take (p + length b) (sets (sets o₁ c (leBytes 4 (length b))) (c + 4) ks) ≡ take p (sets o c (leBytes 4 (length b) ++ ks)) ++ b
+before b ks o o₁ c p h l e =
     let q : c + length (leBytes 4 (length b)) ≡ c + 4 = ap (λ n. c + n) (length-leBytes 4 (length b)) in
-    ap (λ (l : List ℕ). sets l (p + length b) bs)
-    (ap (λ n. sets (sets (sets o p b) c (leBytes 4 (length b))) n ks) (sym q)
-    ∙ sym (sets-append (leBytes 4 (length b)) ks (sets o p b) c)
-    ∙ sym (sets-comm (leBytes 4 (length b) ++ ks) b o c p h))
-    ∙ sym (sets-append b bs (sets o c (leBytes 4 (length b) ++ ks)) p)
+    let fs : List ℕ = leBytes 4 (length b) ++ ks in
+    let n : length (take p o) ≡ p = length-take-le p o (omega arith) in
+    ap (take (p + length b)) (ap (λ n. sets (sets o₁ c (leBytes 4 (length b))) n ks) (sym q) ∙ sym (sets-append (leBytes 4 (length b)) ks o₁ c))
+    ∙ take-sets fs o₁ (p + length b) c (omega arith)
+    ∙ ap (λ (z : List ℕ). sets z c fs) e
+    ∙ sets-append-front fs (take p o) b c (omega (arith, n))
+    ∙ ap (λ (z : List ℕ). z ++ b) (sym (take-sets fs o p c h))
 
 module _ {c : ℕ} {u : Put} {o o₁ o₂ : List ℕ} (o₃ : List ℕ) where
   lays : (x ls xs : Answer Bytes) (t : Put) → Emitted x t o u o₁ → Patched t u c o₁ o₂ → LaidTwo ls xs (c + 4) u o₂ o₃ → LaidTwo (lenOf x ▸ ls) (x ▸ xs) c t o o₃
@@ -95,12 +90,17 @@ module _ {c : ℕ} {u : Put} {o o₁ o₂ : List ℕ} (o₃ : List ℕ) where
       let m′ : p + length b + length bs ≤ length o = omega (arith, l, length-append b bs) in
       let e : u ≡ At (p + length b) = a .moves ∙ ap At (advance-within p (length b) (omega arith)) in
       let q : p + length b - p ≡ length b = omega arith in
-      let l₁ : o₁ ≡ sets o p b = a .lays (omega arith) (omega arith) in
+      let l₁ : take (p + length b) o₁ ≡ take p o ++ b = a .lays (omega arith) (omega arith) in
       let n₁ : length o₁ ≡ length o = a .keeps in
       let l₂ : o₂ ≡ sets o₁ c (leBytes 4 (length b)) = rw q at (f .puts p (p + length b) refl e (omega arith) (omega arith) (omega (arith, n₁))) in
       let n₂ : length o₂ ≡ length o₁ = f .keeps in
-      let l₃ : o₃ ≡ sets (sets o₂ (c + 4) ks) (p + length b) bs = (rw e at w) (omega arith) (omega arith) (omega (arith, n₁, n₂)) in
-      l₃ ∙ rw (l₂, l₁) (two-laid b ks bs o c p h)
+      let l₃ : take (p + length b + length bs) o₃ ≡ take (p + length b) (sets o₂ (c + 4) ks) ++ bs = (rw e at w) (omega arith) (omega arith) (omega (arith, n₁, n₂)) in
+      let r : p + length (b ++ bs) ≡ p + length b + length bs = omega (arith, length-append b bs) in
+      ap (λ n. take n o₃) r
+      ∙ l₃
+      ∙ ap (λ (z : List ℕ). take (p + length b) (sets z (c + 4) ks) ++ bs) l₂
+      ∙ ap (λ (z : List ℕ). z ++ bs) (before b ks o o₁ c p h (omega arith) l₁)
+      ∙ append-assoc (take p (sets o c (leBytes 4 (length b) ++ ks))) b bs
   lays (value b) (value ks) (value bs) (Refused m) a f w = tt
   lays (value b) (value ks) (refused n) t a f w = tt
   lays (value b) (refused n) xs t a f w = tt
@@ -127,19 +127,12 @@ module _ (s : List ℕ) (lib : TypeLib) where
   abbrev lens : ℕ → ℕ → Answer Bytes
   lens n i = lensOf F (typesFrom s lib n i)
 
-  abbrev bodies : ℕ → ℕ → Answer Bytes
-  bodies n i = layAll F (typesFrom s lib n i)
-
   lens-more : (n i : ℕ) → i < n → lens (n - i) i ≡ lenOf (map (encode F) (typeOf s lib i)) ▸ lens (n - (i + 1)) (i + 1)
   unfolding lensOf typesFrom
   lens-more n i h = let e : n - i ≡ suc (n - (i + 1)) = omega arith in rw e
 
-  bodies-more : (n i : ℕ) → i < n → bodies (n - i) i ≡ map (encode F) (typeOf s lib i) ▸ bodies (n - (i + 1)) (i + 1)
-  unfolding layAll typesFrom
-  bodies-more n i h = let e : n - i ≡ suc (n - (i + 1)) = omega arith in rw e
-
   abbrev pub LeftFrom : ℕ → Put → List ℕ → ℕ → Put → List ℕ → Type 0
-  LeftFrom n t₀ o₀ i t o = LeftTwo (lens n 0) (bodies n 0) 8 t₀ o₀ (lens (n - i) i) (bodies (n - i) i) (8 + 4 * i) t o
+  LeftFrom n t₀ o₀ i t o = LeftTwo (lens n 0) (bodies s lib n 0) 8 t₀ o₀ (lens (n - i) i) (bodies s lib (n - i) i) (8 + 4 * i) t o
 
   pub types-start : (n : ℕ) {t : Put} {o : List ℕ} → LeftFrom n t o 0 t o
   types-start n {t} {o} = let e : n - 0 ≡ n = omega arith in rw e (record { finish = λ r o′ w. w })
@@ -148,14 +141,14 @@ module _ (s : List ℕ) (lib : TypeLib) where
       → Emitted (map (encode F) (typeOf s lib i)) t o u o₁ → Patched t u (8 + 4 * i) o₁ o₂ → LeftFrom n t₀ o₀ (i + 1) u o₂
   types-less n i h left a b =
       let e : 8 + 4 * (i + 1) ≡ 8 + 4 * i + 4 = omega arith in
-      record { finish = λ r o′ w. left .finish r o′ (rw (lens-more n i h, bodies-more n i h) (two-more a b (rw e at w))) }
+      record { finish = λ r o′ w. left .finish r o′ (rw (lens-more n i h, bodies-more s lib n i h) (two-more a b (rw e at w))) }
 
-  pub types-none : (n i : ℕ) {t₀ t : Put} {o₀ o : List ℕ} → n ≤ i → LeftFrom n t₀ o₀ i t o → Twofold (lens n 0) (bodies n 0) 8 t₀ o₀ t o
+  pub types-none : (n i : ℕ) {t₀ t : Put} {o₀ o : List ℕ} → n ≤ i → LeftFrom n t₀ o₀ i t o → Twofold (lens n 0) (bodies s lib n 0) 8 t₀ o₀ t o
   unfolding lensOf layAll typesFrom
   types-none n i {t₀} {t} {o₀} {o} h left = let e : n - i ≡ 0 = omega arith in (rw e at left) .finish t o two-none
 
-  pub types-refused : (n i : ℕ) {t₀ : Put} {t : ℕ} {o₀ o : List ℕ} → past < t → LeftFrom n t₀ o₀ i (put t) o → Twofold (lens n 0) (bodies n 0) 8 t₀ o₀ (put t) o
-  types-refused n i {t₀} {t} {o₀} {o} h left = left .finish (put t) o (two-refused (lens (n - i) i) (bodies (n - i) i) (put-refused t h))
+  pub types-refused : (n i : ℕ) {t₀ : Put} {t : ℕ} {o₀ o : List ℕ} → past < t → LeftFrom n t₀ o₀ i (put t) o → Twofold (lens n 0) (bodies s lib n 0) 8 t₀ o₀ (put t) o
+  types-refused n i {t₀} {t} {o₀} {o} h left = left .finish (put t) o (two-refused (lens (n - i) i) (bodies s lib (n - i) i) (put-refused t h))
 
 -- ---- the whole
 
@@ -174,25 +167,35 @@ unfolding lensOf layAll
 both-all F [] = both [] [] (omega arith)
 both-all F (x ∷ xs) = both-more (map (encode F) x) (both-all F xs)
 
-whole : {n : ℕ} {ls xs : Answer Bytes} {t r : Put} {o o₁ o₂ : List ℕ} → 8 + 4 * n ≤ limit → Both (suc n) ls xs
-    → Emitted (value (leBytes 4 n)) (At 0) o t o₁ → Twofold ls xs 4 (At (8 + 4 * n)) o₁ r o₂ → Emitted (value (leBytes 4 n) ▸ (ls ▸ xs)) (At 0) o r o₂
+-- the bodies end where the sheet does
+whole-moves : {n : ℕ} {ls xs : Answer Bytes} → 8 + 4 * n ≤ limit → Both (suc n) ls xs → moved (At (8 + 4 * n)) xs ≡ moved (At 0) (value (leBytes 4 n) ▸ (ls ▸ xs))
 unfolding advance leBytes
-whole {n} {ls} {xs} {t} {r} {o} {o₁} {o₂} few (both ks bs e) a w =
+whole-moves {n} few (both ks bs e) =
     let four : length (leBytes 4 n) ≡ 4 = length-leBytes 4 n in
     let size : length (leBytes 4 n ++ (ks ++ bs)) ≡ 8 + 4 * n + length bs = omega (arith, length-append (leBytes 4 n) (ks ++ bs), length-append ks bs, four, e) in
     let m : max (8 + 4 * n) (min (8 + 4 * n + length bs) (suc limit)) ≡ max 0 (min (0 + length (leBytes 4 n ++ (ks ++ bs))) (suc limit)) = omega (arith, size) in
+    ap At m
+whole-moves few (neither m) = refl
+
+whole : {n : ℕ} {ls xs : Answer Bytes} {t r : Put} {o o₁ o₂ : List ℕ} → 8 + 4 * n ≤ limit → Both (suc n) ls xs
+    → Emitted (value (leBytes 4 n)) (At 0) o t o₁ → Twofold ls xs 4 (At (8 + 4 * n)) o₁ r o₂ → Emitted (value (leBytes 4 n) ▸ (ls ▸ xs)) (At 0) o r o₂
+unfolding leBytes
+whole {n} {ls} {xs} {t} {r} {o} {o₁} {o₂} few (both ks bs e) a w =
+    let four : length (leBytes 4 n) ≡ 4 = length-leBytes 4 n in
+    let size : length (leBytes 4 n ++ (ks ++ bs)) ≡ 8 + 4 * n + length bs = omega (arith, length-append (leBytes 4 n) (ks ++ bs), length-append ks bs, four, e) in
     record {
-      moves = w .moves ∙ ap At m;
+      moves = w .moves ∙ whole-moves few (both ks bs e);
       lays = λ k l.
           let p : 4 + length ks ≡ 8 + 4 * n = omega (arith, e) in
-          let q : o₁ ≡ sets o 0 (leBytes 4 n) = a .lays (omega (arith, four, k, size)) (omega (arith, four, l, size)) in
-          let v : o₂ ≡ sets (sets o₁ 4 ks) (8 + 4 * n) bs = w .lays (omega (arith, p)) (omega (arith, k, size)) (omega (arith, l, size, a .keeps)) in
-          v
-          ∙ ap (λ (x : ℕ). sets (sets o₁ 4 ks) x bs) (sym p)
-          ∙ sym (sets-append ks bs o₁ 4)
-          ∙ ap (λ (x : List ℕ). sets x 4 (ks ++ bs)) q
-          ∙ ap (λ (x : ℕ). sets (sets o 0 (leBytes 4 n)) x (ks ++ bs)) (sym four)
-          ∙ sym (sets-append (leBytes 4 n) (ks ++ bs) o 0);
+          let q : take (0 + length (leBytes 4 n)) o₁ ≡ take 0 o ++ leBytes 4 n = a .lays (omega (arith, four, k, size)) (omega (arith, four, l, size)) in
+          let f : take 4 o₁ ≡ leBytes 4 n = ap (λ (x : ℕ). take x o₁) (sym four) ∙ q in
+          let v : take (8 + 4 * n + length bs) o₂ ≡ take (8 + 4 * n) (sets o₁ 4 ks) ++ bs = w .lays (omega (arith, p)) (omega (arith, k, size)) (omega (arith, l, size, a .keeps)) in
+          let g : take (4 + length ks) (sets o₁ 4 ks) ≡ take 4 o₁ ++ ks = sets-front ks o₁ 4 (omega (arith, p, l, size, a .keeps)) in
+          ap (λ (x : ℕ). take x o₂) (zero-add (length (leBytes 4 n ++ (ks ++ bs))) ∙ size)
+          ∙ v
+          ∙ ap (λ (x : ℕ). take x (sets o₁ 4 ks) ++ bs) (sym p)
+          ∙ ap (λ (x : List ℕ). x ++ bs) (g ∙ ap (λ (x : List ℕ). x ++ ks) f)
+          ∙ append-assoc (leBytes 4 n) ks bs;
       keeps = w .keeps ∙ a .keeps;
     }
 whole few (neither m) a w = record { moves = w .moves; lays = tt; keeps = w .keeps ∙ a .keeps }
@@ -229,23 +232,45 @@ sheet-laid h n y (sized {ys = ys} e) =
     ∙ sym (sheet-bytes edition-one (record { header = h; types = ys })))
 sheet-laid h n y unsized = refl
 
-pub sheet-whole : (s : List ℕ) (lib : TypeLib) {t u r : Put} {o o₁ o₂ o₃ o₄ : List ℕ} → lib .count ≤ 65535
-    → Emitted (value (leBytes 4 (lib .count))) (put 0) o t o₁
-    → Emitted (value (encode header (headerOf s lib))) (put (8 + 4 * lib .count)) o₁ u o₂ → Patched (put (8 + 4 * lib .count)) u 4 o₂ o₃
-    → Twofold (lensOf (typeInfo edition-one (lib .count)) (typesFrom s lib (lib .count) 0)) (layAll (typeInfo edition-one (lib .count)) (typesFrom s lib (lib .count) 0)) 8 u o₃ r o₄
-    → Emitted (sheetEmitted s lib) (put 0) o r o₄
-unfolding sheetEmitted
-sheet-whole s lib {t} {u} {r} {o} {o₁} {o₂} {o₃} {o₄} few a h p w =
-    let n : ℕ = lib .count in
-    let first : put 0 ≡ At 0 = put-at 0 (omega arith) in
-    let start : put (8 + 4 * n) ≡ At (8 + 4 * n) = put-at (8 + 4 * n) (omega (arith, few)) in
-    let F : Format TypeInfo = typeInfo edition-one n in
-    let xs : List (Answer TypeInfo) = typesFrom s lib n 0 in
-    let hb : Bytes = encode header (headerOf s lib) in
-    let q : length xs ≡ n = types-length s lib n 0 in
-    let b : Both (suc n) (lenOf (value hb) ▸ lensOf F xs) (value hb ▸ layAll F xs) = both-more (value hb) (rw q at (both-all F xs)) in
-    let z : Sized F n (all xs) = rw q at (all-sized F xs) in
-    rw first (known
-    (ap₂ (λ (x y : Answer Bytes). value (leBytes 4 n) ▸ ((value (leBytes 4 (length hb)) ▸ x) ▸ (value hb ▸ y))) (lens-laid F xs) (sym (all-laid F xs))
-    ∙ sheet-laid (headerOf s lib) n (all xs) z)
-    (whole (omega (arith, few)) b (rw first at a) (two-more (rw start at h) (rw start at p) w)))
+-- its parts, for a library
+module _ (s : List ℕ) (lib : TypeLib) where
+  abbrev form : Format TypeInfo
+  form = typeInfo edition-one (lib .count)
+
+  abbrev bodies-of : List (Answer TypeInfo)
+  bodies-of = typesFrom s lib (lib .count) 0
+
+  abbrev own-body : Bytes
+  own-body = encode header (headerOf s lib)
+
+  parts-are : value (leBytes 4 (lib .count)) ▸ ((lenOf (value own-body) ▸ lensOf form bodies-of) ▸ (value own-body ▸ layAll form bodies-of)) ≡ sheetEmitted s lib
+  unfolding sheetEmitted
+  parts-are =
+      ap₂ (λ (x y : Answer Bytes). value (leBytes 4 (lib .count)) ▸ ((value (leBytes 4 (length own-body)) ▸ x) ▸ (value own-body ▸ y))) (lens-laid form bodies-of) (sym (all-laid form bodies-of))
+      ∙ sheet-laid (headerOf s lib) (lib .count) (all bodies-of) (rw (types-length s lib (lib .count) 0) at (all-sized form bodies-of))
+
+  both-parts : Both (suc (lib .count)) (lenOf (value own-body) ▸ lensOf form bodies-of) (value own-body ▸ layAll form bodies-of)
+  both-parts = both-more (value own-body) (rw (types-length s lib (lib .count) 0) at (both-all form bodies-of))
+
+  start-at : lib .count ≤ 65535 → put (8 + 4 * lib .count) ≡ At (8 + 4 * lib .count)
+  start-at few = put-at (8 + 4 * lib .count) (omega (arith, few))
+
+  pub sheet-whole : {t u r : Put} {o o₁ o₂ o₃ o₄ : List ℕ} → lib .count ≤ 65535
+      → Emitted (value (leBytes 4 (lib .count))) (put 0) o t o₁
+      → Emitted (value own-body) (put (8 + 4 * lib .count)) o₁ u o₂ → Patched (put (8 + 4 * lib .count)) u 4 o₂ o₃
+      → Twofold (lensOf form bodies-of) (layAll form bodies-of) 8 u o₃ r o₄ → Emitted (sheetEmitted s lib) (put 0) o r o₄
+  sheet-whole few a h p w =
+      let first : put 0 ≡ At 0 = put-at 0 (omega arith) in
+      rw first (known parts-are (whole (omega (arith, few)) both-parts (rw first at a) (two-more (rw (start-at few) at h) (rw (start-at few) at p) w)))
+
+  -- where it ends, by the lengths of its parts
+  pub sheet-size : {t r : Put} {o o′ : List ℕ} → lib .count ≤ 65535 → Emitted (value own-body) (put (8 + 4 * lib .count)) o t o′ → r ≡ moved t (layAll form bodies-of)
+      → r ≡ moved (put 0) (sheetEmitted s lib)
+  sheet-size {t} few h w =
+      w
+      ∙ ap (λ (u : Put). moved u (layAll form bodies-of)) (h .moves)
+      ∙ moved-join (value own-body) (layAll form bodies-of) (put (8 + 4 * lib .count))
+      ∙ ap (λ (u : Put). moved u (value own-body ▸ layAll form bodies-of)) (start-at few)
+      ∙ whole-moves (omega (arith, few)) both-parts
+      ∙ ap (moved (At 0)) parts-are
+      ∙ ap (λ (u : Put). moved u (sheetEmitted s lib)) (sym (put-at 0 (omega arith)))

@@ -1,9 +1,9 @@
 -- Contents and bodies. They are written in another order than they are laid out: the length of a body goes into the contents once
 -- the body is written. Assumes nothing.
 use mathlib.Core.Path.{_≡_}
-use mathlib.Core.List.{List, [], _∷_}
+use mathlib.Core.List.{List, [], _∷_, _++_}
 use Prim.Native.Nat.{ℕ, _+_, _-_, _≤_}
-use lib.ListN.{length}
+use lib.ListN.{length, take}
 use lib.Seq.{sets}
 use Rattle.records.specs.Answer.{Answer, value, refused, map, bind}
 use Rattle.records.specs.Record.{limit}
@@ -15,7 +15,7 @@ use Rattle.describe.specs.Call.{within, written}
 use Rattle.describe.specs.Describe.{headerOf, typesOf}
 use Rattle.emit.specs.Emit.{Put}
 use Rattle.emit.specs.Emit.{At, Refused}
-use Rattle.emit.specs.Emit.{_▸_, moved}
+use Rattle.emit.specs.Emit.{_▸_, put, moved}
 
 -- the whole sheet of a library
 unfoldable pub sheetEmitted : List ℕ → TypeLib → Answer Bytes
@@ -35,9 +35,9 @@ pub record Patched (from end : Put) (at : ℕ) (o o′ : List ℕ) : Type 0 wher
   pub puts : (p q : ℕ) → from ≡ At p → end ≡ At q → p ≤ q → at + 4 ≤ limit → at + 4 ≤ length o → o′ ≡ sets o at (leBytes 4 (q - p))
   pub keeps : length o′ ≡ length o
 
--- ks were laid from c, and bs from the place
+-- ks were laid from c, and bs from the place; what stands behind bs is left to the emitter
 abbrev pub LaidTwo : Answer Bytes → Answer Bytes → ℕ → Put → List ℕ → List ℕ → Type 0
-LaidTwo (value ks) (value bs) c (At p) o o′ = c + length ks ≤ p → p + length bs ≤ limit → p + length bs ≤ length o → o′ ≡ sets (sets o c ks) p bs
+LaidTwo (value ks) (value bs) c (At p) o o′ = c + length ks ≤ p → p + length bs ≤ limit → p + length bs ≤ length o → take (p + length bs) o′ ≡ take p (sets o c ks) ++ bs
 LaidTwo (value ks) (value bs) c (Refused m) o o′ = Unit {0}
 LaidTwo (value ks) (refused n) c t o o′ = Unit {0}
 LaidTwo (refused n) x c t o o′ = Unit {0}
@@ -52,3 +52,8 @@ pub record Twofold (ks xs : Answer Bytes) (c : ℕ) (t : Put) (o : List ℕ) (r 
 pub record Answered (x : Answer Bytes) (o : List ℕ) (r : Answer ℕ) (o′ : List ℕ) : Type 0 where
   pub replies : r ≡ map length (bind x (within (length o)))
   pub leaves : o′ ≡ written o (bind x (within (length o)))
+
+-- x ends at `size`, and stands at the front of e where it is no longer than that
+pub record Made (x : Answer Bytes) (size : ℕ) (e : List ℕ) : Type 0 where
+  pub measured : put size ≡ moved (put 0) x
+  pub made : size ≤ limit → size ≤ length e → value (take size e) ≡ x

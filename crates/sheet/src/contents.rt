@@ -9,7 +9,7 @@ ghost use Rattle.description.specs.Format.{encode};
 ghost use Rattle.description.specs.Sheet.{edition-one, header, typeInfo};
 ghost use Rattle.describe.specs.Describe.{headerOf};
 ghost use Rattle.describe.specs.Types.{typesFrom};
-ghost use Rattle.emit.specs.Emit.{Emitted, put};
+ghost use Rattle.emit.specs.Emit.{Emitted, put, moved};
 ghost use Rattle.sheet_members.specs.Lists.{layAll};
 ghost use Rattle.sheet.specs.Contents.{lensOf, sheetEmitted, Patched, Twofold};
 
@@ -26,19 +26,30 @@ pub(crate) fn put_sheet(s: &[u8], lib: TypeLib, out: &mut [u8]) -> usize
     let count = lib.count as usize;
     emit::put_le(out, 0, lib.count as u64, 4);
     let start = TYPE_LENGTHS + 4 * count;
-    let t = put_header(s, lib, out, start);
+    let t = put_header(&*s, lib, out, start);
     patch(start, t, LIBRARY_LENGTH, out);
-    put_types(s, lib, out, t)
+    put_types(&*s, lib, out, t)
+}
+
+// Where the whole sheet would end, or its refusal.
+pub(crate) fn end_of_sheet(s: &[u8], lib: TypeLib) -> usize
+    requires { ⌜ lib .count ≤ 65535 ⌝ }
+    ensures { λ r. ⌜ put r ≡ moved (put 0) (sheetEmitted (now (s .entry)) lib) ⌝ }
+{
+    let mut none = [0u8; 0];
+    let start = TYPE_LENGTHS + 4 * (lib.count as usize);
+    let t = put_header(&*s, lib, &mut none, start);
+    sheet_sizes::types(&*s, lib, t)
 }
 
 // The library's own body.
 fn put_header(s: &[u8], lib: TypeLib, out: &mut [u8], to: usize) -> usize
     ensures { λ r. ⌜ Emitted (value (encode header (headerOf (now (s .entry)) lib))) (put to) (now (out .entry)) (put r) (now (out .exit)) ⌝ }
 {
-    let t = emit::copy_u32(s, 0, 0x0C, out, to);
-    let t = emit::copy_u32(s, 0, 0x18, out, t);
-    let t = values::put_opt_guid(s, lib, emit::word_at(s, 0, 0x08), out, t);
-    values::put_opt_name(s, lib, emit::word_at(s, 0, 0x38), out, t)
+    let t = emit::copy_u32(&*s, 0, 0x0C, out, to);
+    let t = emit::copy_u32(&*s, 0, 0x18, out, t);
+    let t = values::put_opt_guid(&*s, lib, emit::word_at(&*s, 0, 0x08), out, t);
+    values::put_opt_name(&*s, lib, emit::word_at(&*s, 0, 0x38), out, t)
 }
 
 // The bodies of all types, from `to` on, with their lengths in the contents. (A refusal ends it at once: nothing is emitted
@@ -54,7 +65,7 @@ fn put_types(s: &[u8], lib: TypeLib, out: &mut [u8], to: usize) -> usize
         if emit::PAST < t {
             return t;
         }
-        let end = sheet_types::put_type_of(s, lib, i, out, t);
+        let end = sheet_types::put_type_of(&*s, lib, i, out, t);
         patch(t, end, TYPE_LENGTHS + 4 * i, out);
         t = end;
         i += 1;
@@ -70,6 +81,6 @@ fn patch(from: usize, end: usize, at: usize, out: &mut [u8])
         return;
     }
     if from <= end {
-        emit::put_le(out, at, (end - from) as u64, 4);
+        emit::overwrite(out, at, (end - from) as u64, 4);
     }
 }
