@@ -1,6 +1,4 @@
 -- The definitions that the contracts of `cursors` cite, and the laws that callers use of them.
 pub mod Cursors
 pub mod CursorLaws
-pub mod Members
-pub mod MemberLaws
 pub mod Told

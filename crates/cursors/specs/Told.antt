@@ -12,18 +12,6 @@ use Rattle.cursors.specs.declared.iterators.VarStep.the-variants as varS
 use Rattle.cursors.specs.declared.iterators.ParamCursor.{ParamCursor}
 use Rattle.cursors.specs.declared.iterators.ParamStep.{ParamStep}
 use Rattle.cursors.specs.declared.iterators.ParamStep.the-variants as paramStep
-use Rattle.cursors.specs.declared.iterators.GuidCursor.{GuidCursor}
-use Rattle.cursors.specs.declared.iterators.GuidStep.{GuidStep}
-use Rattle.cursors.specs.declared.iterators.GuidStep.the-variants as guidStep
-use Rattle.cursors.specs.declared.iterators.ImportCursor.{ImportCursor}
-use Rattle.cursors.specs.declared.iterators.ImportStep.{ImportStep}
-use Rattle.cursors.specs.declared.iterators.ImportStep.the-variants as importStep
-use Rattle.cursors.specs.declared.iterators.ImpFileCursor.{ImpFileCursor}
-use Rattle.cursors.specs.declared.iterators.ImpFileStep.{ImpFileStep}
-use Rattle.cursors.specs.declared.iterators.ImpFileStep.the-variants as impFileStep
-use Rattle.cursors.specs.declared.iterators.TypeInfoCursor.{TypeInfoCursor}
-use Rattle.cursors.specs.declared.iterators.TypeInfoStep.{TypeInfoStep}
-use Rattle.cursors.specs.declared.iterators.TypeInfoStep.the-variants as typeinfoStep
 use Rattle.cursors.specs.declared.iterators.FuncsAnswer.{FuncsAnswer}
 use Rattle.cursors.specs.declared.iterators.FuncsAnswer.the-variants as funcs
 use Rattle.cursors.specs.declared.iterators.VarsAnswer.{VarsAnswer}
@@ -34,12 +22,7 @@ use Rattle.cursors.specs.declared.iterators.Skipped.{Skipped}
 use Rattle.cursors.specs.declared.iterators.Skipped.the-variants as skipped
 use Rattle.cursors.specs.declared.iterators.Block.{Block}
 use Rattle.cursors.specs.declared.iterators.Block.the-variants as block
-use Rattle.records.specs.declared.name.NameEntry.{NameEntry}
-use Rattle.cursors.specs.declared.iterators.NameStep.{NameStep}
-use Rattle.cursors.specs.declared.iterators.NameStep.the-variants as nameStep
-use Rattle.cursors.specs.declared.iterators.NameEntryAnswer.{NameEntryAnswer}
-use Rattle.cursors.specs.declared.iterators.NameEntryAnswer.the-variants as nameEntry
-use Rattle.cursors.specs.Cursors.{Step, yielded, ended, NameYield, entry, over}
+use Rattle.cursors.specs.Cursors.{Step, yielded, ended}
 
 abbrev pub toldFuncStep : FuncStep → Step FuncCursor
 toldFuncStep (funcStep.Record r c) = yielded (record { at = r .at; len = r .len }) c
@@ -52,22 +35,6 @@ toldVarStep (varStep.Refused n c) = ended n c
 abbrev pub toldParamStep : ParamStep → Step ParamCursor
 toldParamStep (paramStep.Record r c) = yielded (record { at = r .at; len = r .len }) c
 toldParamStep (paramStep.Refused n c) = ended n c
-
-abbrev pub toldGuidStep : GuidStep → Step GuidCursor
-toldGuidStep (guidStep.Record r c) = yielded (record { at = r .at; len = r .len }) c
-toldGuidStep (guidStep.Refused n c) = ended n c
-
-abbrev pub toldImportStep : ImportStep → Step ImportCursor
-toldImportStep (importStep.Record r c) = yielded (record { at = r .at; len = r .len }) c
-toldImportStep (importStep.Refused n c) = ended n c
-
-abbrev pub toldImpFileStep : ImpFileStep → Step ImpFileCursor
-toldImpFileStep (impFileStep.Record r c) = yielded (record { at = r .at; len = r .len }) c
-toldImpFileStep (impFileStep.Refused n c) = ended n c
-
-abbrev pub toldTypeInfoStep : TypeInfoStep → Step TypeInfoCursor
-toldTypeInfoStep (typeinfoStep.Record r c) = yielded (record { at = r .at; len = r .len }) c
-toldTypeInfoStep (typeinfoStep.Refused n c) = ended n c
 
 abbrev pub toldFuncs : FuncsAnswer → Answer FuncCursor
 toldFuncs (funcs.Value c) = value c
@@ -88,11 +55,3 @@ toldSkip skipped.Nothing = none
 abbrev pub toldBlock : Block → Option Place
 toldBlock (block.Some at size) = some (record { at = at + 4; len = size })
 toldBlock block.Nothing = none
-
-abbrev pub toldNameEntry : NameEntryAnswer → Answer NameEntry
-toldNameEntry (nameEntry.Value e) = value e
-toldNameEntry (nameEntry.Refused n) = refused n
-
-abbrev pub toldNameStep : NameStep → NameYield
-toldNameStep (nameStep.Record e c) = entry e c
-toldNameStep (nameStep.Refused n c) = over n c

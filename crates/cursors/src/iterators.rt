@@ -1,9 +1,8 @@
-// Cursors over the records of a library: iterators.rs of the source.
+// Cursors over the members of a typeinfo and over the parameters of a function: iterators.rs of the
+// source. (Those over tables are in `table_cursors`.)
 //
 // A cursor goes in by value and comes back. One step replies as one `next` of the source: the record
-// and the next cursor, or a refusal and the same cursor. 9 is the end; the typeinfo cursor also goes
-// on after a refusal 6, 7 or 8.
-use records::answer;
+// and the next cursor, or a refusal and the same cursor. 9 is the end.
 use records::answer::Place;
 use records::answer::PlaceAnswer;
 use records::answer::U16Answer;
@@ -12,26 +11,18 @@ use records::answer::UsizeAnswer;
 use records::field;
 use records::field::LIMIT;
 use records::func::FuncRecord;
-use records::guidentry::GuidEntry;
-use records::impfile::ImpFile;
-use records::impinfo::ImpInfo;
-use records::name::NameEntry;
 use records::param::ParameterInfo;
 use records::typeinfo::TypeInfoEntry;
 use records::var::VarRecord;
-use typelib::TypeInfoIndex;
-use typelib::TypeLib;
 use typelib::typeinfos::Counts;
 use typelib::typeinfos::CountsAnswer;
-use typelib::typeinfos::TypeInfoAnswer;
 use util::NEGATIVE;
 ghost use mathlib.Core.Path.{_≡_};
-ghost use Prim.Native.Nat.{_+_, _-_, _^_, _≤_, _<_};
-ghost use lib.ListN.{length};
+ghost use Prim.Native.Nat.{_+_, _^_, _<_};
 ghost use Rattle.records.specs.Told.{toldPlace, toldUsize};
-ghost use Rattle.cursors.specs.Cursors.{recordAt, funcStep, varStep, blockWith, funcCursor, funcsOf, skip, varsFrom, varCursor, varsOf, fixedAt, guidStep, importStep, paramCursor, paramsOf, paramAt, paramStep, impFileEntry, impFileStep, guidsOf, importsOf, impFilesOf, typeinfoStep, nameEntryFrom, nameEntry, nameStep, namesOf};
+ghost use Rattle.cursors.specs.Cursors.{recordAt, funcStep, varStep, blockWith, funcCursor, funcsOf, skip, varsFrom, varCursor, varsOf, fixedAt, paramCursor, paramsOf, paramAt, paramStep};
 ghost use Rattle.typelib.specs.Tables.{lent};
-ghost use Rattle.cursors.specs.Told.{toldFuncs, toldFuncStep, toldVars, toldVarStep, toldParams, toldParamStep, toldGuidStep, toldImportStep, toldImpFileStep, toldTypeInfoStep, toldNameStep, toldNameEntry, toldBlock, toldSkip};
+ghost use Rattle.cursors.specs.Told.{toldFuncs, toldFuncStep, toldVars, toldVarStep, toldParams, toldParamStep, toldBlock, toldSkip};
 
 pub struct FuncCursor {
     pub pos: usize,
@@ -81,62 +72,6 @@ pub enum ParamsAnswer {
     Refused(u8),
 }
 
-pub struct GuidCursor {
-    pub pos: usize,
-    pub end: usize,
-}
-
-pub enum GuidStep {
-    Record(GuidEntry, GuidCursor),
-    Refused(u8, GuidCursor),
-}
-
-pub struct ImportCursor {
-    pub pos: usize,
-    pub end: usize,
-}
-
-pub enum ImportStep {
-    Record(ImpInfo, ImportCursor),
-    Refused(u8, ImportCursor),
-}
-
-pub struct ImpFileCursor {
-    pub pos: usize,
-    pub end: usize,
-}
-
-pub enum ImpFileStep {
-    Record(ImpFile, ImpFileCursor),
-    Refused(u8, ImpFileCursor),
-}
-
-// Over the name table from `start`, whose entries are counted from there.
-pub struct NameCursor {
-    pub pos: usize,
-    pub end: usize,
-    pub start: usize,
-}
-
-pub enum NameStep {
-    Record(NameEntry, NameCursor),
-    Refused(u8, NameCursor),
-}
-
-pub enum NameEntryAnswer {
-    Value(NameEntry),
-    Refused(u8),
-}
-
-pub struct TypeInfoCursor {
-    pub index: usize,
-}
-
-pub enum TypeInfoStep {
-    Record(TypeInfoEntry, TypeInfoCursor),
-    Refused(u8, TypeInfoCursor),
-}
-
 // A place behind the function records; or none, where a size word is past the file.
 pub enum Skipped {
     At(usize),
@@ -147,13 +82,6 @@ pub enum Skipped {
 pub enum Block {
     Some(u32, u32),
     Nothing,
-}
-
-// The typeinfos of the library.
-pub fn typeinfos() -> TypeInfoCursor
-    ensures { λ r. ⌜ r .index ≡ 0 ⌝ }
-{
-    TypeInfoCursor { index: 0 }
 }
 
 // The function records of a typeinfo.
@@ -192,51 +120,6 @@ pub fn params(s: &[u8], func: FuncRecord) -> ParamsAnswer
             U16Answer::Refused(n) => ParamsAnswer::Refused(n),
         },
         PlaceAnswer::Refused(n) => ParamsAnswer::Refused(n),
-    }
-}
-
-// The entries of the GUID table.
-pub fn guids(lib: TypeLib, s: &[u8]) -> GuidCursor
-    ensures { λ r. ⌜ r ≡ guidsOf (now (s .entry)) lib ⌝ }
-{
-    let table = lib.table(s, 5);
-    GuidCursor {
-        pos: table.at,
-        end: table.at + table.len,
-    }
-}
-
-// The import records.
-pub fn imports(lib: TypeLib, s: &[u8]) -> ImportCursor
-    ensures { λ r. ⌜ r ≡ importsOf (now (s .entry)) lib ⌝ }
-{
-    let table = lib.table(s, 1);
-    ImportCursor {
-        pos: table.at,
-        end: table.at + table.len,
-    }
-}
-
-// The import files.
-pub fn imp_files(lib: TypeLib, s: &[u8]) -> ImpFileCursor
-    ensures { λ r. ⌜ r ≡ impFilesOf (now (s .entry)) lib ⌝ }
-{
-    let table = lib.table(s, 2);
-    ImpFileCursor {
-        pos: table.at,
-        end: table.at + table.len,
-    }
-}
-
-// The entries of the name table.
-pub fn names(lib: TypeLib, s: &[u8]) -> NameCursor
-    ensures { λ r. ⌜ r ≡ namesOf (now (s .entry)) lib ⌝ }
-{
-    let table = lib.table(s, 7);
-    NameCursor {
-        pos: table.at,
-        end: table.at + table.len,
-        start: table.at,
     }
 }
 
@@ -292,48 +175,6 @@ impl VarCursor {
     }
 }
 
-impl GuidCursor {
-    pub fn step(self, s: &[u8]) -> GuidStep
-        ensures { λ r. ⌜ toldGuidStep r ≡ guidStep (now (s .entry)) self ⌝ }
-    {
-        let pos = self.pos;
-        match fixed_at(s, pos, self.end, GuidEntry::SIZE) {
-            PlaceAnswer::Value(place) => GuidStep::Record(
-                GuidEntry {
-                    at: place.at,
-                    len: place.len,
-                },
-                GuidCursor {
-                    pos: pos + GuidEntry::SIZE,
-                    end: self.end,
-                },
-            ),
-            PlaceAnswer::Refused(n) => GuidStep::Refused(n, self),
-        }
-    }
-}
-
-impl ImportCursor {
-    pub fn step(self, s: &[u8]) -> ImportStep
-        ensures { λ r. ⌜ toldImportStep r ≡ importStep (now (s .entry)) self ⌝ }
-    {
-        let pos = self.pos;
-        match fixed_at(s, pos, self.end, ImpInfo::SIZE) {
-            PlaceAnswer::Value(place) => ImportStep::Record(
-                ImpInfo {
-                    at: place.at,
-                    len: place.len,
-                },
-                ImportCursor {
-                    pos: pos + ImpInfo::SIZE,
-                    end: self.end,
-                },
-            ),
-            PlaceAnswer::Refused(n) => ImportStep::Refused(n, self),
-        }
-    }
-}
-
 impl ParamCursor {
     pub fn step(self, s: &[u8]) -> ParamStep
         ensures { λ r. ⌜ toldParamStep r ≡ paramStep (now (s .entry)) self ⌝ }
@@ -360,79 +201,6 @@ impl ParamCursor {
         ensures { λ r. ⌜ r ≡ self .remaining ⌝ }
     {
         self.remaining
-    }
-}
-
-impl ImpFileCursor {
-    pub fn step(self, s: &[u8]) -> ImpFileStep
-        ensures { λ r. ⌜ toldImpFileStep r ≡ impFileStep (now (s .entry)) self ⌝ }
-    {
-        let pos = self.pos;
-        match imp_file_entry(s, pos, self.end) {
-            PlaceAnswer::Value(place) => ImpFileStep::Record(
-                ImpFile {
-                    at: place.at,
-                    len: place.len,
-                },
-                ImpFileCursor {
-                    pos: pos + place.len,
-                    end: self.end,
-                },
-            ),
-            PlaceAnswer::Refused(n) => ImpFileStep::Refused(n, self),
-        }
-    }
-}
-
-impl NameCursor {
-    pub fn step(self, s: &[u8]) -> NameStep
-        ensures { λ r. ⌜ toldNameStep r ≡ nameStep (now (s .entry)) self ⌝ }
-    {
-        match name_entry(s, self) {
-            NameEntryAnswer::Value(entry) => {
-                let text = entry.text;
-                NameStep::Record(
-                    entry,
-                    NameCursor {
-                        pos: text.at + (text.len + 3) / 4 * 4,
-                        end: self.end,
-                        start: self.start,
-                    },
-                )
-            }
-            NameEntryAnswer::Refused(n) => NameStep::Refused(n, self),
-        }
-    }
-}
-
-impl TypeInfoCursor {
-    pub fn step(self, s: &[u8], lib: TypeLib) -> TypeInfoStep
-        ensures { λ r. ⌜ toldTypeInfoStep r ≡ typeinfoStep (now (s .entry)) lib self ⌝ }
-    {
-        let index = self.index;
-        if LIMIT < s.len() {
-            return TypeInfoStep::Refused(1, self);
-        }
-        if lib.count as usize <= index {
-            return TypeInfoStep::Refused(9, self);
-        }
-        let next = TypeInfoCursor { index: index + 1 };
-        match lib.typeinfo(s, TypeInfoIndex(index)) {
-            TypeInfoAnswer::Value(ti) => TypeInfoStep::Record(ti, next),
-            TypeInfoAnswer::Refused(n) => TypeInfoStep::Refused(n, next),
-        }
-    }
-
-    // How many typeinfos are left.
-    pub fn size_hint(self, lib: TypeLib) -> usize
-        ensures { λ r. ⌜ r ≡ lib .count - self .index ⌝ }
-    {
-        let count = lib.count as usize;
-        if count < self.index {
-            0
-        } else {
-            count - self.index
-        }
     }
 }
 
@@ -464,7 +232,7 @@ fn record_at(s: &[u8], pos: usize, end: usize, remaining: usize, least: usize) -
 }
 
 // The record of `size` bytes at `pos`: the one test of the records of one size.
-fn fixed_at(s: &[u8], pos: usize, end: usize, size: usize) -> PlaceAnswer
+pub fn fixed_at(s: &[u8], pos: usize, end: usize, size: usize) -> PlaceAnswer
     ensures { λ r. ⌜ toldPlace r ≡ lent (now (s .entry)) (fixedAt (now (s .entry)) pos end size) ⌝ }
 {
     if LIMIT < s.len() {
@@ -495,18 +263,6 @@ fn param_at(s: &[u8], cursor: ParamCursor) -> PlaceAnswer
         return PlaceAnswer::Refused(9);
     }
     fixed_at(s, cursor.pos, cursor.end, ParameterInfo::SIZE)
-}
-
-fn imp_file_entry(s: &[u8], pos: usize, end: usize) -> PlaceAnswer
-    ensures { λ r. ⌜ toldPlace r ≡ lent (now (s .entry)) (impFileEntry (now (s .entry)) pos end) ⌝ }
-{
-    match fixed_at(s, pos, end, ImpFile::HEADER_SIZE) {
-        PlaceAnswer::Value(_) => {
-            let name = (util::u16_or_zero(s, pos + 12) / 4) as usize;
-            fixed_at(s, pos, end, (name + 14 + 3) / 4 * 4)
-        }
-        PlaceAnswer::Refused(n) => PlaceAnswer::Refused(n),
-    }
 }
 
 // The block at a memoffset, where it has one and `count` records are declared.
@@ -616,43 +372,5 @@ fn param_cursor(place: Place, count: u16) -> ParamCursor
         pos: place.at + (len - size),
         end: place.at + len,
         remaining: count as usize,
-    }
-}
-
-// The entry of the name table at the cursor.
-fn name_entry(s: &[u8], c: NameCursor) -> NameEntryAnswer
-    ensures { λ r. ⌜ toldNameEntry r ≡ lent (now (s .entry)) (nameEntry (now (s .entry)) c) ⌝ }
-{
-    let pos = c.pos;
-    if LIMIT < s.len() {
-        return NameEntryAnswer::Refused(1);
-    }
-    if pos < c.start {
-        return NameEntryAnswer::Refused(9);
-    }
-    match fixed_at(s, pos, c.end, 12) {
-        PlaceAnswer::Value(_) => {
-            let len = util::u8_or_zero(s, pos + 8) as usize;
-            match answer::text(s, field::record_place(s, pos + 12, len, 0)) {
-                PlaceAnswer::Value(text) => NameEntryAnswer::Value(name_entry_from(s, c, text)),
-                PlaceAnswer::Refused(n) => NameEntryAnswer::Refused(n),
-            }
-        }
-        PlaceAnswer::Refused(n) => NameEntryAnswer::Refused(n),
-    }
-}
-
-fn name_entry_from(s: &[u8], c: NameCursor, text: Place) -> NameEntry
-    requires { ⌜ (c .pos + 12 ≤ length (now s)) × (c .start ≤ c .pos) ⌝ }
-    ensures { λ r. ⌜ r ≡ nameEntryFrom (now (s .entry)) c text ⌝ }
-{
-    let pos = c.pos;
-    NameEntry {
-        offset: pos - c.start,
-        text,
-        hreftype: util::signed32(util::u32_or_zero(s, pos)),
-        next_hash: util::signed32(util::u32_or_zero(s, pos + 4)),
-        flags: util::u8_or_zero(s, pos + 9),
-        hashcode: util::u16_or_zero(s, pos + 10),
     }
 }

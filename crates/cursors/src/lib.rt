@@ -1,3 +1,2 @@
-// Cursors over the records of a library (iterators.rs of the source), and the search for members' names.
+// Cursors over the members of a typeinfo and over a function's parameters (iterators.rs of the source).
 pub mod iterators;
-pub mod members;

@@ -1,12 +1,7 @@
 // Cursors: each goes in as its numbers, and comes back as bytes.
 use cursors::iterators;
 use cursors::iterators::FuncCursor;
-use cursors::iterators::GuidCursor;
-use cursors::iterators::ImpFileCursor;
-use cursors::iterators::ImportCursor;
-use cursors::iterators::NameCursor;
 use cursors::iterators::ParamCursor;
-use cursors::iterators::TypeInfoCursor;
 use cursors::iterators::VarCursor;
 use impltypes::ImplTypeCursor;
 use records::answer::Place;
@@ -14,13 +9,19 @@ use records::answer::UsizeAnswer;
 use records::func::FuncRecord;
 use records::typeinfo::TypeInfoEntry;
 use replies::reply;
+use table_cursors::iterators::GuidCursor;
+use table_cursors::iterators::ImpFileCursor;
+use table_cursors::iterators::ImportCursor;
+use table_cursors::iterators::NameCursor;
+use table_cursors::iterators::TypeInfoCursor;
 use typelib::TypeLib;
 ghost use Rattle.replies.specs.At.{chainAt, funcAt, funcsAt, guidsAt, impFilesAt, importsAt, namesAt, paramsAt, typeinfoAt, typeinfosAt, varsAt};
 ghost use Rattle.replies.specs.Call.{laid, libraryIn, outcome, past};
 ghost use Rattle.rows.specs.Values.{chainCursor, chainStep, cursor, entryStep, funcNumbers, guidNumbers, impFileNumbers, importNumbers, nameNumbers, paramNumbers, size, step, typeinfoNumbers, varNumbers};
 ghost use Rattle.records.specs.Answer.{map, value};
 ghost use Rattle.impltypes.specs.Chain.{implTypeStep, implTypesOf, walkOf};
-ghost use Rattle.cursors.specs.Cursors.{funcStep, funcsOf, guidStep, guidsOf, impFileStep, impFilesOf, importStep, importsOf, nameStep, namesOf, paramStep, paramsOf, typeinfoStep, varStep, varsOf};
+ghost use Rattle.cursors.specs.Cursors.{funcStep, funcsOf, paramStep, paramsOf, varStep, varsOf};
+ghost use Rattle.table_cursors.specs.Cursors.{guidStep, guidsOf, impFileStep, impFilesOf, importStep, importsOf, nameStep, namesOf, typeinfoStep};
 ghost use Prim.Native.Nat.{_-_};
 ghost use mathlib.Core.Path.{_≡_};
 
@@ -73,7 +74,11 @@ pub extern "C" fn msft_guids(s: &[u8], out: &mut [u8]) -> i64
 {
     let p = TypeLib::parse(s);
     let lib = p.lib;
-    reply::lay(p.number, rows::of_guids(iterators::guids(lib, s)), out)
+    reply::lay(
+        p.number,
+        rows::of_guids(table_cursors::iterators::guids(lib, s)),
+        out,
+    )
 }
 
 // The import records.
@@ -83,7 +88,11 @@ pub extern "C" fn msft_imports(s: &[u8], out: &mut [u8]) -> i64
 {
     let p = TypeLib::parse(s);
     let lib = p.lib;
-    reply::lay(p.number, rows::of_imports(iterators::imports(lib, s)), out)
+    reply::lay(
+        p.number,
+        rows::of_imports(table_cursors::iterators::imports(lib, s)),
+        out,
+    )
 }
 
 // The import files.
@@ -95,7 +104,7 @@ pub extern "C" fn msft_imp_files(s: &[u8], out: &mut [u8]) -> i64
     let lib = p.lib;
     reply::lay(
         p.number,
-        rows::of_imp_files(iterators::imp_files(lib, s)),
+        rows::of_imp_files(table_cursors::iterators::imp_files(lib, s)),
         out,
     )
 }
@@ -107,7 +116,11 @@ pub extern "C" fn msft_names(s: &[u8], out: &mut [u8]) -> i64
 {
     let p = TypeLib::parse(s);
     let lib = p.lib;
-    reply::lay(p.number, rows::of_names(iterators::names(lib, s)), out)
+    reply::lay(
+        p.number,
+        rows::of_names(table_cursors::iterators::names(lib, s)),
+        out,
+    )
 }
 
 // The cursor over the types that `ti` implements, at the first.
@@ -291,7 +304,11 @@ pub extern "C" fn msft_typeinfos(s: &[u8], out: &mut [u8]) -> i64
 {
     let p = TypeLib::parse(s);
     let lib = p.lib;
-    reply::lay(p.number, rows::of_typeinfos(iterators::typeinfos()), out)
+    reply::lay(
+        p.number,
+        rows::of_typeinfos(table_cursors::iterators::typeinfos()),
+        out,
+    )
 }
 
 // How many typeinfos are left. (Of the other cursors that is the number `remaining`.)

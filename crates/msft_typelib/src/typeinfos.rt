@@ -8,7 +8,7 @@ ghost use Rattle.replies.specs.Call.{bits32, laid, libraryIn, outcome, past, re
 ghost use Rattle.rows.specs.Values.{place};
 ghost use Rattle.records.specs.Answer.{map};
 ghost use Rattle.records.specs.Record.{signed32};
-ghost use Rattle.cursors.specs.Members.{memberName};
+ghost use Rattle.table_cursors.specs.Members.{memberName};
 ghost use Rattle.typelib.specs.TypeInfos.{funcMemid, funcName, funcNameOffset, typeinfoOf, typeinfoOffset, varMemid, varName, varNameOffset};
 ghost use mathlib.Core.Path.{_≡_};
 
@@ -133,7 +133,7 @@ pub extern "C" fn msft_member_name(s: &[u8], index: usize, k: usize, out: &mut [
     let lib = p.lib;
     reply::lay(
         p.number,
-        rows::of_place(cursors::members::member_name(lib, s, TypeInfoIndex(index), k)),
+        rows::of_place(table_cursors::members::member_name(lib, s, TypeInfoIndex(index), k)),
         out,
     )
 }

@@ -54,23 +54,23 @@ fn of_library(
 ) -> Progress {
     let from = match reading {
         57 => {
-            let cursor = iterators::guids(lib, lent);
+            let cursor = table_cursors::iterators::guids(lib, lent);
             state_of(cursor.pos, cursor.end, 0)
         }
         58 => {
-            let cursor = iterators::names(lib, lent);
+            let cursor = table_cursors::iterators::names(lib, lent);
             state_of(cursor.pos, cursor.end, cursor.start)
         }
         59 => {
-            let cursor = iterators::imports(lib, lent);
+            let cursor = table_cursors::iterators::imports(lib, lent);
             state_of(cursor.pos, cursor.end, 0)
         }
         60 => {
-            let cursor = iterators::imp_files(lib, lent);
+            let cursor = table_cursors::iterators::imp_files(lib, lent);
             state_of(cursor.pos, cursor.end, 0)
         }
         _ => {
-            let cursor = iterators::typeinfos();
+            let cursor = table_cursors::iterators::typeinfos();
             state_of(cursor.index, 0, 0)
         }
     };

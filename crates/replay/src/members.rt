@@ -37,7 +37,7 @@ pub(crate) fn replay(
         45 => same_place(
             recorded,
             before,
-            cursors::members::member_name(lib, lent, TypeInfoIndex(index), member),
+            table_cursors::members::member_name(lib, lent, TypeInfoIndex(index), member),
         ),
         _ => of_record(
             lent,

@@ -6,11 +6,11 @@ use Rattle.impltypes.specs.declared.ImplTypeCursor.{ImplTypeCursor}
 use Rattle.cursors.specs.declared.iterators.FuncCursor.{FuncCursor}
 use Rattle.cursors.specs.declared.iterators.VarCursor.{VarCursor}
 use Rattle.cursors.specs.declared.iterators.ParamCursor.{ParamCursor}
-use Rattle.cursors.specs.declared.iterators.GuidCursor.{GuidCursor}
-use Rattle.cursors.specs.declared.iterators.ImportCursor.{ImportCursor}
-use Rattle.cursors.specs.declared.iterators.ImpFileCursor.{ImpFileCursor}
-use Rattle.cursors.specs.declared.iterators.NameCursor.{NameCursor}
-use Rattle.cursors.specs.declared.iterators.TypeInfoCursor.{TypeInfoCursor}
+use Rattle.table_cursors.specs.declared.iterators.GuidCursor.{GuidCursor}
+use Rattle.table_cursors.specs.declared.iterators.ImportCursor.{ImportCursor}
+use Rattle.table_cursors.specs.declared.iterators.ImpFileCursor.{ImpFileCursor}
+use Rattle.table_cursors.specs.declared.iterators.NameCursor.{NameCursor}
+use Rattle.table_cursors.specs.declared.iterators.TypeInfoCursor.{TypeInfoCursor}
 
 abbrev pub typeinfoAt : ℕ → ℕ → TypeInfoEntry
 typeinfoAt at len = record { at = at; len = len }

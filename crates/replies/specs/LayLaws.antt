@@ -1,24 +1,24 @@
 -- The laws of values laid into an output. Assumes nothing.
-use mathlib.Core.Path.{_≡_, refl, sym, ap, _∙_}
+use mathlib.Core.Path.{_≡_, refl, sym, ap, ap₂, _∙_}
 use mathlib.Core.List.{List, _++_}
 use Prim.Native.Nat.{ℕ, zero, suc, _+_, _-_, _%_, _≤_, _<_, _^_}
 use native.Mathlib.Nat.{zero-add}
 use native.Mathlib.Omega.{arith}
 use lib.IntN.{ℤ, pos, negℤ}
-use lib.ListN.{length, drop}
-use lib.Seq.{sets, sets-eq}
+use lib.ListN.{length, take, drop}
+use lib.Seq.{length-take-le}
 use mir.Syntax.{w64}
 use mir.Val.{toZ, ofZ}
 use borrow.Author.Tests.{le-leb, lt-leb}
-use Rattle.records.specs.Answer.{Answer, value, refused, map}
+use Rattle.records.specs.Answer.{Answer, value, refused}
 use Rattle.records.specs.Record.{limit}
 use Rattle.texts.specs.Text.{fitted, fronted}
 use Rattle.emit.specs.Emit.{Put, At, Refused, past, put}
 use Rattle.emit.specs.Laws.{put-at, put-refused}
 use Rattle.emit.specs.Emit.{Emitted, moved, advance}
-use Rattle.emit.specs.Laws.{advance-within}
+use Rattle.emit.specs.Laws.{advance-within, filled}
 use Rattle.rows.specs.RowLaws.{lengthOf}
-use Rattle.replies.specs.Call.{after, reply, Outcome, outcome, laid}
+use Rattle.replies.specs.Call.{after, reply, outcome, laid}
 use Rattle.replies.specs.CallLaws.{minus-back, pos-back}
 
 -- ---- a row behind a refusal
@@ -41,15 +41,15 @@ never e = let z : _≡_ {A = ℕ} 0 1 = cc in absurd (omega arith)
 
 -- the bytes fit, and stand at the output's front
 lay-value : (number : ℕ) (x : Answer (List ℕ)) {n : ℕ} (o : List ℕ) {r : Put} {o′ : List ℕ} → lengthOf x ≤ limit
-    → At n ≡ moved (startOf number) x → n ≤ length o → n < 2 ^ 63 → Emitted x (At 0) o r o′
-    → outcome (toZ w64 (ofZ w64 (toZ w64 n))) o′ ≡ laid (after number x) o
+    → At n ≡ moved (startOf number) x → n ≤ length o → n < 2 ^ 63 → Emitted x (At 0) (take n o) r o′
+    → outcome (toZ w64 (ofZ w64 (toZ w64 n))) (o′ ++ drop n o) ≡ laid (after number x) o
 unfolding after laid fitted fronted reply
 lay-value zero (value bs) {n} o {r} {o′} s e h k m =
     let q : advance 0 (length bs) ≡ length bs = advance-within 0 (length bs) (omega arith) ∙ zero-add (length bs) in
     let p : n ≡ advance 0 (length bs) = cc in
     let g : n ≡ length bs = p ∙ q in
-    let f : o′ ≡ bs ++ drop (length bs) o = m .lays (omega arith) (omega arith) ∙ sets-eq bs o 0 (omega arith) ∙ ap (λ (k : ℕ). bs ++ drop k o) (zero-add (length bs)) in
-    rw (le-leb (length bs) (length o) (omega arith)) (ap (λ (z : ℤ). outcome z o′) (pos-back n k ∙ ap pos g) ∙ ap (outcome (pos (length bs))) f)
+    let f : o′ ++ drop n o ≡ bs ++ drop (length bs) o = ap₂ (λ (a : List ℕ) (i : ℕ). a ++ drop i o) (filled m s (length-take-le n o h ∙ g)) g in
+    rw (le-leb (length bs) (length o) (omega arith)) (ap (λ (z : ℤ). outcome z (o′ ++ drop n o)) (pos-back n k ∙ ap pos g) ∙ ap (outcome (pos (length bs))) f)
 lay-value zero (refused i) o s e h k m = never e
 lay-value (suc i) x o s e h k m = never e
 
@@ -83,8 +83,8 @@ module _ (number : ℕ) (x : Answer (List ℕ)) (o : List ℕ) (size start : ℕ
   ran : put size ≡ moved (startOf number) x
   ran = m .moves ∙ ap (λ (t : Put). moved t x) s
 
-  pub lay-done : {r : Put} {o′ : List ℕ} → lengthOf x ≤ limit → size ≤ past → size ≤ length o → size < 2 ^ 63 → Emitted x (put 0) o r o′
-      → outcome (toZ w64 (ofZ w64 (toZ w64 size))) o′ ≡ laid (after number x) o
+  pub lay-done : {r : Put} {o′ : List ℕ} → lengthOf x ≤ limit → size ≤ past → size ≤ length o → size < 2 ^ 63 → Emitted x (put 0) (take size o) r o′
+      → outcome (toZ w64 (ofZ w64 (toZ w64 size))) (o′ ++ drop size o) ≡ laid (after number x) o
   lay-done l h k j w = lay-value number x o l (sym (put-at size h) ∙ ran) k j (rw (put-at 0 (omega arith)) at w)
 
   pub lay-no-room : {z : ℤ} → lengthOf x ≤ limit → size ≤ past → length o < size → z ≡ negℤ (pos 12)

@@ -9,7 +9,6 @@ use records::answer::U32Answer;
 use records::answer::UsizeAnswer;
 use records::typeinfo::KindAnswer;
 use records::types::TypeKind;
-use rows::row;
 use rows::row::Row;
 use typelib::TypeLib;
 use typelib::typeinfos::OffsetAnswer;
@@ -208,13 +207,13 @@ pub fn lay(number: u8, row: Row, out: &mut [u8]) -> i64
     ensures { λ r. ⌜ outcome (toZ w64 (ofZ w64 r)) (now (out .exit)) ≡ laid (after number (toldRow row)) (now (out .entry)) ⌝ }
 {
     let mut none: [u8; 0] = [];
-    let size = row::put_row(&mut none, start(number), row);
+    let size = row_bytes::put_row(&mut none, start(number), row);
     if emit::PAST < size {
         return minus(((size - emit::PAST - 1) % 256) as u8);
     }
     if out.len() < size {
         return minus(12);
     }
-    row::put_row(out, 0, row);
+    row_bytes::put_row(&mut out[..size], 0, row);
     size as i64
 }

@@ -17,12 +17,13 @@ use Rattle.impltypes.specs.declared.ImplTypeCursor.{ImplTypeCursor}
 use Rattle.cursors.specs.declared.iterators.FuncCursor.{FuncCursor}
 use Rattle.cursors.specs.declared.iterators.VarCursor.{VarCursor}
 use Rattle.cursors.specs.declared.iterators.ParamCursor.{ParamCursor}
-use Rattle.cursors.specs.declared.iterators.GuidCursor.{GuidCursor}
-use Rattle.cursors.specs.declared.iterators.ImportCursor.{ImportCursor}
-use Rattle.cursors.specs.declared.iterators.ImpFileCursor.{ImpFileCursor}
-use Rattle.cursors.specs.declared.iterators.NameCursor.{NameCursor}
-use Rattle.cursors.specs.declared.iterators.TypeInfoCursor.{TypeInfoCursor}
-use Rattle.cursors.specs.Cursors.{Step, yielded, ended, NameYield, entry, over}
+use Rattle.table_cursors.specs.declared.iterators.GuidCursor.{GuidCursor}
+use Rattle.table_cursors.specs.declared.iterators.ImportCursor.{ImportCursor}
+use Rattle.table_cursors.specs.declared.iterators.ImpFileCursor.{ImpFileCursor}
+use Rattle.table_cursors.specs.declared.iterators.NameCursor.{NameCursor}
+use Rattle.table_cursors.specs.declared.iterators.TypeInfoCursor.{TypeInfoCursor}
+use Rattle.cursors.specs.Cursors.{Step, yielded, ended}
+use Rattle.table_cursors.specs.Cursors.{NameYield, entry, over}
 use Rattle.typelib.specs.References.{Resolved, internal, external}
 use Rattle.description.specs.Format.{leBytes}
 use Rattle.description.specs.Description.{Shape, shapeOf}

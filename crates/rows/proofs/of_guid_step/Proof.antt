@@ -1,6 +1,6 @@
 use Rattle.rows.specs.Values.{step}
 use Rattle.rows.specs.Values.{guidNumbers}
-use Rattle.cursors.specs.Told.{toldGuidStep}
+use Rattle.table_cursors.specs.Told.{toldGuidStep}
 use Rattle.rows.specs.ValueLaws.{shown}
 use borrow.Author.Needs.{needs}
 use Rattle.rows.proofs.of_guid_step.Statement.{statement}

@@ -1,6 +1,6 @@
 use Rattle.rows.specs.Values.{step}
 use Rattle.rows.specs.Values.{impFileNumbers}
-use Rattle.cursors.specs.Told.{toldImpFileStep}
+use Rattle.table_cursors.specs.Told.{toldImpFileStep}
 use Rattle.rows.specs.ValueLaws.{shown}
 use borrow.Author.Needs.{needs}
 use Rattle.rows.proofs.of_imp_file_step.Statement.{statement}

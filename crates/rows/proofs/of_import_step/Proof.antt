@@ -1,6 +1,6 @@
 use Rattle.rows.specs.Values.{step}
 use Rattle.rows.specs.Values.{importNumbers}
-use Rattle.cursors.specs.Told.{toldImportStep}
+use Rattle.table_cursors.specs.Told.{toldImportStep}
 use Rattle.rows.specs.ValueLaws.{shown}
 use borrow.Author.Needs.{needs}
 use Rattle.rows.proofs.of_import_step.Statement.{statement}

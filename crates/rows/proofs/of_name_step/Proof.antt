@@ -1,5 +1,5 @@
 use Rattle.rows.specs.Values.{entryStep}
-use Rattle.cursors.specs.Told.{toldNameStep}
+use Rattle.table_cursors.specs.Told.{toldNameStep}
 use Rattle.rows.specs.ValueLaws.{shown}
 use borrow.Author.Needs.{needs}
 use Rattle.rows.proofs.of_name_step.Statement.{statement}

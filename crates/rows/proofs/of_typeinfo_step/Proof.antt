@@ -1,6 +1,6 @@
 use Rattle.rows.specs.Values.{typeinfoNumbers}
 use Rattle.rows.specs.Values.{step}
-use Rattle.cursors.specs.Told.{toldTypeInfoStep}
+use Rattle.table_cursors.specs.Told.{toldTypeInfoStep}
 use Rattle.rows.specs.ValueLaws.{shown}
 use borrow.Author.Needs.{needs}
 use Rattle.rows.proofs.of_typeinfo_step.Statement.{statement}

@@ -1,7 +1,9 @@
-use Rattle.rows.specs.RowLaws.{row-short}
-use Rattle.replies.specs.LayLaws.{lay-done, lay-no-room, lay-declined}
-use Rattle.rows.specs.Told.{toldRow}
+use mathlib.Core.Path.{sym}
+use lib.Seq.{length-take-le}
 use native.Mathlib.Omega.{arith}
+use Rattle.rows.specs.Told.{toldRow}
+use Rattle.replies.specs.LayLaws.{lay-done, lay-no-room, lay-declined}
+use Rattle.rows.specs.RowLaws.{row-short}
 use borrow.Author.Needs.{needs}
 use Rattle.replies.proofs.reply.lay.Statement.{statement}
 use Rattle.replies.proofs.reply.lay.Tie as tie
@@ -36,6 +38,12 @@ minus-requires-2 c κs = search needs
 returns-2 : tie.Need-returns-2
 returns-2 c = lay-no-room _ (toldRow (c .before .before .before .before .before .before .before .before .args .row)) _ _ _ (c .before .before .before .before .before .start .ensures) (c .before .before .before .before .put-row .ensures) (row-short (c .before .before .before .before .before .before .before .before .args .row)) (c .before .before .if1 .left) (c .before .if2 .taken) (c .minus2 .ensures)
 
+slice-relend-prefix-put-row : tie.Need-slice-relend-prefix-put-row
+slice-relend-prefix-put-row c = search needs
+
+slice-aggregate-put-row-2 : tie.Need-slice-aggregate-put-row-2
+slice-aggregate-put-row-2 c = sym (length-take-le _ _ (c .before .if2 .left))
+
 put-row-requires-2 : tie.Need-put-row-requires-2
 put-row-requires-2 c κs = search needs
 
@@ -62,6 +70,8 @@ lay-spec =
     returns
     minus-requires-2
     returns-2
+    slice-relend-prefix-put-row
+    slice-aggregate-put-row-2
     put-row-requires-2
     cast-result
     same-length

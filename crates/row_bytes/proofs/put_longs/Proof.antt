@@ -1,0 +1,106 @@
+use Rattle.rows.specs.ValueLaws.{shown, longBytes, one, four, five}
+use Rattle.emit.specs.Laws.{known, join}
+use borrow.Author.Needs.{needs}
+use Rattle.row_bytes.proofs.put_longs.Statement.{statement}
+use Rattle.row_bytes.proofs.put_longs.Tie as tie
+
+enum-known-l : tie.Need-enum-known-l
+enum-known-l c = search needs
+
+put-le-requires : tie.Need-put-le-requires
+put-le-requires c κs = search needs
+
+enum-known-l-2 : tie.Need-enum-known-l-2
+enum-known-l-2 c = search needs
+
+put-two-requires : tie.Need-put-two-requires
+put-two-requires c κs = search needs
+
+enum-known-l-3 : tie.Need-enum-known-l-3
+enum-known-l-3 c = search needs
+
+put-le-requires-2 : tie.Need-put-le-requires-2
+put-le-requires-2 c κs = search needs
+
+put-two-requires-2 : tie.Need-put-two-requires-2
+put-two-requires-2 c κs = search needs
+
+enum-known-l-4 : tie.Need-enum-known-l-4
+enum-known-l-4 c = search needs
+
+put-two-requires-3 : tie.Need-put-two-requires-3
+put-two-requires-3 c κs = search needs
+
+put-two-requires-4 : tie.Need-put-two-requires-4
+put-two-requires-4 c κs = search needs
+
+enum-known-l-5 : tie.Need-enum-known-l-5
+enum-known-l-5 c = search needs
+
+put-le-requires-3 : tie.Need-put-le-requires-3
+put-le-requires-3 c κs = search needs
+
+put-two-requires-5 : tie.Need-put-two-requires-5
+put-two-requires-5 c κs = search needs
+
+put-two-requires-6 : tie.Need-put-two-requires-6
+put-two-requires-6 c κs = search needs
+
+same-length : tie.Need-same-length
+same-length c = search needs
+
+returns : tie.Need-returns
+returns c = known (one (c .before .before .before .before .before .l .given .1)) (c .before .before .put-le .ensures)
+
+same-length-2 : tie.Need-same-length-2
+same-length-2 c = search needs
+
+returns-2 : tie.Need-returns-2
+returns-2 c = known (shown longBytes (c .before .before .before .before .before .l2 .given .1)) (c .before .before .put-two .ensures)
+
+same-length-3 : tie.Need-same-length-3
+same-length-3 c = search needs
+
+returns-3 : tie.Need-returns-3
+returns-3 c = known (shown longBytes (c .before .before .before .before .before .before .before .before .before .l3 .given .1)) (join (c .before .before .before .before .before .before .put-le2 .ensures) (c .before .before .put-two2 .ensures))
+
+same-length-4 : tie.Need-same-length-4
+same-length-4 c = search needs
+
+returns-4 : tie.Need-returns-4
+returns-4 c = known (four (c .before .before .before .before .before .before .before .before .before .l4 .given .1)) (join (c .before .before .before .before .before .before .put-two3 .ensures) (c .before .before .put-two4 .ensures))
+
+same-length-5 : tie.Need-same-length-5
+same-length-5 c = search needs
+
+returns-5 : tie.Need-returns-5
+returns-5 c = known (five (c .before .before .before .before .before .before .before .before .before .before .before .before .before .l5 .given .1)) (join (c .before .before .before .before .before .before .before .before .before .before .put-le3 .ensures) (join (c .before .before .before .before .before .before .put-two5 .ensures) (c .before .before .put-two6 .ensures)))
+
+pub put-longs-spec : {M : Type 1} → statement M
+put-longs-spec =
+    tie.close
+    (tie.spec
+    enum-known-l
+    put-le-requires
+    enum-known-l-2
+    put-two-requires
+    enum-known-l-3
+    put-le-requires-2
+    put-two-requires-2
+    enum-known-l-4
+    put-two-requires-3
+    put-two-requires-4
+    enum-known-l-5
+    put-le-requires-3
+    put-two-requires-5
+    put-two-requires-6
+    same-length
+    returns
+    same-length-2
+    returns-2
+    same-length-3
+    returns-3
+    same-length-4
+    returns-4
+    same-length-5
+    returns-5)

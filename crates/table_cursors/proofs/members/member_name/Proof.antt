@@ -1,0 +1,69 @@
+use Rattle.table_cursors.specs.MemberLaws.{behind-first, behind-over}
+use Rattle.table_cursors.specs.Members.{matching, behind}
+use Rattle.typelib.specs.TableLaws.{lent-long, lent-fits}
+use Rattle.table_cursors.specs.Told.{toldNameStep}
+use Rattle.records.specs.Told.{toldU32}
+use Rattle.records.specs.AnswerLaws.{tells, bind-value, bind-refused}
+use Rattle.table_cursors.specs.declared.iterators.NameCursor.{NameCursor}
+use lib.ListN.{length}
+use mathlib.Core.Path.{_∙_, ap}
+use borrow.Author.Needs.{needs}
+use Rattle.table_cursors.proofs.members.member_name.Statement.{statement}
+use Rattle.table_cursors.proofs.members.member_name.Tie as tie
+
+returns : tie.Need-returns
+returns c = lent-long _ _ (c .if1 .taken)
+
+offset-word-requires : tie.Need-offset-word-requires
+offset-word-requires c κs = search needs
+
+enum-known-href : tie.Need-enum-known-href
+enum-known-href c = search needs
+
+names-requires : tie.Need-names-requires
+names-requires c κs = search needs
+
+next-match-requires : tie.Need-next-match-requires
+next-match-requires c κs = search needs
+
+enum-known-c : tie.Need-enum-known-c
+enum-known-c c = search needs
+
+next-match-requires-2 : tie.Need-next-match-requires-2
+next-match-requires-2 c κs = search needs
+
+match-behind-requires : tie.Need-match-behind-requires
+match-behind-requires c κs = search needs
+
+enum-known-n : tie.Need-enum-known-n
+enum-known-n c = search needs
+
+enum-known-n-2 : tie.Need-enum-known-n-2
+enum-known-n-2 c = search needs
+
+returns-2 : tie.Need-returns-2
+returns-2 c = lent-fits _ _ _ (c .before .before .before .before .before .before .before .before .before .before .before .if1 .left) (bind-value _ _ _ _ (tells toldU32 (c .before .before .before .before .before .before .before .before .href .given .1) (c .before .before .before .before .before .before .before .before .before .before .offset-word .ensures)) (behind-first (c .before .before .before .before .before .before .before .before .before .before .before .before .before .args .k) (c .before .before .before .before .before .before .before .before .before .before .before .before .before .args .s .now) (c .before .before .before .before .before .before .before .before .href .given .0 .0) _ _ _ _ (tells toldNameStep (c .before .before .before .c .given .1) (c .before .before .before .before .before .next-match .ensures ∙ ap (λ (x : NameCursor). matching (length (c .before .before .before .before .before .before .before .before .before .before .before .before .before .args .s .now)) (c .before .before .before .before .before .before .before .before .before .before .before .before .before .args .s .now) (c .before .before .before .before .before .before .before .before .href .given .0 .0) x) (c .before .before .before .before .before .before .names .ensures))) (c .match-behind .ensures ∙ ap (behind (c .before .before .before .before .before .before .before .before .before .before .before .before .before .args .k) (c .before .before .before .before .before .before .before .before .before .before .before .before .before .args .s .now) (c .before .before .before .before .before .before .before .before .href .given .0 .0)) (c .before .next-match2 .ensures))))
+
+returns-3 : tie.Need-returns-3
+returns-3 c = lent-fits _ _ _ (c .before .before .before .before .before .before .before .before .before .if1 .left) (bind-value _ _ _ _ (tells toldU32 (c .before .before .before .before .before .before .href .given .1) (c .before .before .before .before .before .before .before .before .offset-word .ensures)) (behind-over _ (c .before .before .before .before .before .before .before .before .before .before .before .args .s .now) (c .before .before .before .before .before .before .href .given .0 .0) _ _ _ (tells toldNameStep (c .before .n .given .1) (c .before .before .before .next-match .ensures ∙ ap (λ (x : NameCursor). matching (length (c .before .before .before .before .before .before .before .before .before .before .before .args .s .now)) (c .before .before .before .before .before .before .before .before .before .before .before .args .s .now) (c .before .before .before .before .before .before .href .given .0 .0) x) (c .before .before .before .before .names .ensures)))))
+
+returns-4 : tie.Need-returns-4
+returns-4 c = lent-fits _ _ _ (c .before .before .before .before .if1 .left) (bind-refused _ _ _ (tells toldU32 (c .before .n2 .given .1) (c .before .before .before .offset-word .ensures)))
+
+pub member-name-spec : {M : Type 1} → statement M
+member-name-spec =
+    tie.close
+    (tie.spec
+    returns
+    offset-word-requires
+    enum-known-href
+    names-requires
+    next-match-requires
+    enum-known-c
+    next-match-requires-2
+    match-behind-requires
+    enum-known-n
+    enum-known-n-2
+    returns-2
+    returns-3
+    returns-4)

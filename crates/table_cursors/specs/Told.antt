@@ -1,0 +1,45 @@
+-- What each answer of a cursor tells: its value, or the number of the refusal (document 01). A record is its place.
+use Rattle.records.specs.Answer.{Answer, value, refused}
+use Rattle.table_cursors.specs.declared.iterators.GuidCursor.{GuidCursor}
+use Rattle.table_cursors.specs.declared.iterators.GuidStep.{GuidStep}
+use Rattle.table_cursors.specs.declared.iterators.GuidStep.the-variants as guidStep
+use Rattle.table_cursors.specs.declared.iterators.ImportCursor.{ImportCursor}
+use Rattle.table_cursors.specs.declared.iterators.ImportStep.{ImportStep}
+use Rattle.table_cursors.specs.declared.iterators.ImportStep.the-variants as importStep
+use Rattle.table_cursors.specs.declared.iterators.ImpFileCursor.{ImpFileCursor}
+use Rattle.table_cursors.specs.declared.iterators.ImpFileStep.{ImpFileStep}
+use Rattle.table_cursors.specs.declared.iterators.ImpFileStep.the-variants as impFileStep
+use Rattle.table_cursors.specs.declared.iterators.TypeInfoCursor.{TypeInfoCursor}
+use Rattle.table_cursors.specs.declared.iterators.TypeInfoStep.{TypeInfoStep}
+use Rattle.table_cursors.specs.declared.iterators.TypeInfoStep.the-variants as typeinfoStep
+use Rattle.records.specs.declared.name.NameEntry.{NameEntry}
+use Rattle.table_cursors.specs.declared.iterators.NameStep.{NameStep}
+use Rattle.table_cursors.specs.declared.iterators.NameStep.the-variants as nameStep
+use Rattle.table_cursors.specs.declared.iterators.NameEntryAnswer.{NameEntryAnswer}
+use Rattle.table_cursors.specs.declared.iterators.NameEntryAnswer.the-variants as nameEntry
+use Rattle.cursors.specs.Cursors.{Step, yielded, ended}
+use Rattle.table_cursors.specs.Cursors.{NameYield, entry, over}
+
+abbrev pub toldGuidStep : GuidStep → Step GuidCursor
+toldGuidStep (guidStep.Record r c) = yielded (record { at = r .at; len = r .len }) c
+toldGuidStep (guidStep.Refused n c) = ended n c
+
+abbrev pub toldImportStep : ImportStep → Step ImportCursor
+toldImportStep (importStep.Record r c) = yielded (record { at = r .at; len = r .len }) c
+toldImportStep (importStep.Refused n c) = ended n c
+
+abbrev pub toldImpFileStep : ImpFileStep → Step ImpFileCursor
+toldImpFileStep (impFileStep.Record r c) = yielded (record { at = r .at; len = r .len }) c
+toldImpFileStep (impFileStep.Refused n c) = ended n c
+
+abbrev pub toldTypeInfoStep : TypeInfoStep → Step TypeInfoCursor
+toldTypeInfoStep (typeinfoStep.Record r c) = yielded (record { at = r .at; len = r .len }) c
+toldTypeInfoStep (typeinfoStep.Refused n c) = ended n c
+
+abbrev pub toldNameEntry : NameEntryAnswer → Answer NameEntry
+toldNameEntry (nameEntry.Value e) = value e
+toldNameEntry (nameEntry.Refused n) = refused n
+
+abbrev pub toldNameStep : NameStep → NameYield
+toldNameStep (nameStep.Record e c) = entry e c
+toldNameStep (nameStep.Refused n c) = over n c

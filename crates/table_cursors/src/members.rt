@@ -1,0 +1,78 @@
+// The names of a typeinfo's members, looked up in the name table.
+use crate::iterators;
+use crate::iterators::NameCursor;
+use crate::iterators::NameStep;
+use records::answer::PlaceAnswer;
+use records::answer::U32Answer;
+use records::field::LIMIT;
+use typelib::TypeInfoIndex;
+use typelib::TypeLib;
+ghost use mathlib.Core.Path.{_≡_};
+ghost use Prim.Native.Nat.{suc};
+ghost use lib.ListN.{length};
+ghost use Rattle.records.specs.Told.{toldPlace};
+ghost use Rattle.table_cursors.specs.Members.{matching, behind, memberName};
+ghost use Rattle.table_cursors.specs.Told.{toldNameStep};
+
+// Name `k`, from 0, of the entries of a typeinfo, its own name left out. (The source builds the
+// list of them.)
+pub fn member_name(lib: TypeLib, s: &[u8], index: TypeInfoIndex, k: usize) -> PlaceAnswer
+    ensures { λ r. ⌜ toldPlace r ≡ memberName (now (s .entry)) lib (index .0) k ⌝ }
+{
+    if LIMIT < s.len() {
+        return PlaceAnswer::Refused(1);
+    }
+    match lib.offset_word(s, index.0) {
+        U32Answer::Value(href) => match next_match(s, href, iterators::names(lib, s)) {
+            NameStep::Record(_, c) => match_behind(s, href, k, next_match(s, href, c)),
+            NameStep::Refused(n, _) => PlaceAnswer::Refused(n),
+        },
+        U32Answer::Refused(n) => PlaceAnswer::Refused(n),
+    }
+}
+
+// The first entry from the cursor on that has that hreftype.
+fn next_match(s: &[u8], href: u32, from: NameCursor) -> NameStep
+    ensures { λ r. ⌜ toldNameStep r ≡ matching (length (now (s .entry))) (now (s .entry)) href from ⌝ }
+{
+    let mut c = from;
+    let mut left = s.len();
+    while 0 < left {
+        match c.step(s) {
+            NameStep::Record(entry, next) => {
+                if util::unsigned32(entry.hreftype) == href {
+                    return NameStep::Record(entry, next);
+                }
+                c = next;
+            }
+            NameStep::Refused(n, same) => {
+                return NameStep::Refused(n, same);
+            }
+        }
+        left = left - 1;
+    }
+    NameStep::Refused(9, c)
+}
+
+// The text of match `k` behind the one that was found.
+fn match_behind(s: &[u8], href: u32, k: usize, first: NameStep) -> PlaceAnswer
+    ensures { λ r. ⌜ toldPlace r ≡ behind k (now (s .entry)) href (toldNameStep first) ⌝ }
+{
+    let mut found = first;
+    let mut left = k;
+    loop {
+        match found {
+            NameStep::Record(entry, c) => {
+                if left == 0 {
+                    let text = entry.text;
+                    return PlaceAnswer::Value(text);
+                }
+                found = next_match(s, href, c);
+                left = left - 1;
+            }
+            NameStep::Refused(n, _) => {
+                return PlaceAnswer::Refused(n);
+            }
+        }
+    }
+}
