@@ -1,5 +1,6 @@
-//! The sheet call beside the sheet made from the reference. The reference lays its sheets into a
-//! vector that is kept from call to call, as the product's output is.
+//! The sheet call beside the sheet made from the reference, for the same promise: a call that refuses
+//! has written nothing. So the reference lays a sheet into a vector of its own, which is kept from call to
+//! call, and copies it into the output when it is whole.
 
 use std::hint::black_box;
 
@@ -43,13 +44,13 @@ pub fn print(is_long: bool) {
 /// All of the libraries make one round.
 fn print_case(name: &'static str, libraries: &[Vec<u8>]) {
     // Written to once, so that no round pays for memory that is used for the first time.
-    let mut sheet = vec![1; MOST_BYTES];
+    let (mut sheet, mut out) = (vec![1; MOST_BYTES], vec![1; MOST_BYTES]);
     let case = Case {
         name,
         bytes: libraries.iter().map(Vec::len).sum(),
         calls: Some(libraries.len()),
         rust: Box::new(move || {
-            let lay = |library: &Vec<u8>| rust_sheet(library, &mut sheet);
+            let lay = |library: &Vec<u8>| rust_sheet(library, &mut sheet, &mut out);
             libraries.iter().map(lay).sum()
         }),
         product: product(libraries),
@@ -58,9 +59,12 @@ fn print_case(name: &'static str, libraries: &[Vec<u8>]) {
 }
 
 /// The length of the sheet, or the number of the refusal.
-fn rust_sheet(library: &[u8], out: &mut Vec<u8>) -> u64 {
-    match sheet_into(black_box(library), MOST_BYTES, out) {
-        Ok(()) => out.len() as u64,
+fn rust_sheet(library: &[u8], sheet: &mut Vec<u8>, out: &mut [u8]) -> u64 {
+    match sheet_into(black_box(library), out.len(), sheet) {
+        Ok(()) => {
+            black_box(&mut *out)[..sheet.len()].copy_from_slice(sheet);
+            sheet.len() as u64
+        }
         Err(number) => u64::from(number),
     }
 }
