@@ -18,7 +18,7 @@ const MOST_TYPES: u32 = 65_535;
 // The longest libraries whose sheets are made in memory of the call's own.
 const SMALL: usize = 16_384;
 
-const MEDIUM: usize = 65_536;
+const MEDIUM: usize = 131_072;
 
 // The bytes that a typeinfo has, with its word in the offset table.
 const TYPEINFO: usize = 104;

@@ -1,17 +1,19 @@
 -- The words behind a type's block, looked up from where they start, are those of `typelib`. Assumes nothing.
 use mathlib.Core.Path.{_≡_, refl, sym, ap, _∙_}
-use mathlib.Core.Option.{Option, some, none}
+use mathlib.Core.Option.{some, none}
 use mathlib.Core.List.{List}
-use Prim.Native.Nat.{ℕ, _+_, _*_, _≤_, _<_}
+use Prim.Native.Nat.{ℕ, _+_, _*_, _-_, _≤_, _<_}
+use native.Mathlib.Nat.{add-zero}
 use native.Mathlib.Omega.{arith}
-use lib.ListN.{length}
+use lib.ListN.{length, take, drop}
 use borrow.Author.Tests.{le-leb, lt-leb}
 use Rattle.util.specs.Read.{read, orZero, mapped, le, read-some, read-none}
 use Rattle.records.specs.declared.answer.Place.{Place}
 use Rattle.records.specs.declared.typeinfo.TypeInfoEntry.{TypeInfoEntry}
 use Rattle.records.specs.Answer.{Answer, value, refused, map, bind, orNine}
 use Rattle.typelib.specs.declared.typeinfos.Counts.{Counts}
-use Rattle.typelib.specs.TypeInfos.{ofTypeInfo, countsOf, blockAt, auxWord, auxIn, auxAt, memberWord}
+use Rattle.typelib.specs.HeaderLaws.{word-in-part}
+use Rattle.typelib.specs.TypeInfos.{ofTypeInfo, countsOf, blockAt, auxWord, auxIn, memberWord}
 use Rattle.records.specs.Record.{signed32}
 use Rattle.describe.specs.Values.{found}
 use Rattle.sheet_members.specs.Words.{blockEnd, wordsAt, wordFrom, Row, FuncRows}
@@ -22,8 +24,11 @@ use Rattle.typelib.specs.declared.TypeLib.{TypeLib}
 use Rattle.describe.specs.Members.{memidBy, nameBy}
 
 module _ (s : List ℕ) where
-  pub word-there : (at : ℕ) → at + 4 ≤ length s → value (orZero (read 4 s at)) ≡ orNine (read 4 s at)
-  word-there at h = let e : some (le 4 s at) ≡ read 4 s at = read-some 4 s at (le 4 s at) h refl in rw (← e)
+  -- a word that is read from a part of just its four bytes
+  pub word-there : (at v : ℕ) → at + 4 ≤ length s → v ≡ orZero (read 4 (take (at + 4 - at) (drop at s)) 0) → value v ≡ orNine (read 4 s at)
+  word-there at v h e =
+      let f : v ≡ le 4 s (at + 0) = word-in-part s at (at + 4 - at) 0 v (omega arith) (omega arith) e in
+      ap value (f ∙ ap (le 4 s) (add-zero at)) ∙ ap orNine (read-some 4 s at (le 4 s at) h refl)
 
   pub word-beyond : (at : ℕ) → length s < at + 4 → refused 9 ≡ orNine (read 4 s at)
   word-beyond at h = ap orNine (read-none 4 s at h)

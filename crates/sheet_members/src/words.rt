@@ -96,5 +96,7 @@ pub fn word(s: &[u8], at: usize, index: usize) -> I32Answer
     if (s.len() - at) / 4 <= index {
         return I32Answer::Refused(9);
     }
-    I32Answer::Value(util::signed32(util::u32_or_zero(s, at + 4 * index)))
+    let from = at + 4 * index;
+    let bytes = &s[from..from + 4];
+    I32Answer::Value(util::signed32(util::u32_or_zero(bytes, 0)))
 }
