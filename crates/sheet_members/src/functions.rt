@@ -9,6 +9,8 @@ use cursors::iterators::FuncsAnswer;
 use records::answer::I32Answer;
 use records::func::FuncRecord;
 use records::typeinfo::TypeInfoEntry;
+use sheet_trees::names;
+use sheet_trees::names::Names;
 use sheet_trees::trees;
 use sheet_trees::values;
 use typelib::TypeLib;
@@ -25,6 +27,7 @@ ghost use Rattle.description.specs.Sheet.{edition-one, u16, function};
 ghost use Rattle.describe.specs.Values.{found, all, numbered};
 ghost use Rattle.describe.specs.Members.{yields, functionOf, functionsOf};
 ghost use Rattle.emit.specs.Emit.{Emitted, put, past};
+ghost use Rattle.sheet_trees.specs.Names.{Near};
 ghost use Rattle.sheet_members.specs.Lists.{layAll};
 ghost use Rattle.sheet_members.specs.Words.{functionWords};
 
@@ -57,6 +60,7 @@ fn put_each(
     ensures { λ r. ⌜ Emitted (layAll (function edition-one (lib .count)) (numbered (functionOf (now (s .entry)) lib ti) 0 (yields (funcStep (now (s .entry))) (cursor .remaining) cursor))) (put to) (now (out .entry)) (put (r .to)) (now (out .exit)) × (r .to ≤ past → r .count ≡ length (yields (funcStep (now (s .entry))) (cursor .remaining) cursor)) ⌝ }
 {
     let rows = words::func_rows(&*s, ti);
+    let names = names::names_of(&*s, lib);
     let mut t = to;
     let mut c = cursor;
     let mut i: usize = 0;
@@ -69,7 +73,7 @@ fn put_each(
         };
         let memid = words::word(&*s, rows.memids, i);
         let name_offset = words::word(&*s, rows.names, i);
-        t = put_function(&*s, lib, ti, i, memid, name_offset, func, out, t);
+        t = put_function(&*s, lib, names, ti, i, memid, name_offset, func, out, t);
         c = next;
         i += 1;
     }
@@ -79,6 +83,7 @@ fn put_each(
 fn put_function(
     s: &[u8],
     lib: TypeLib,
+    names: Names,
     ti: TypeInfoEntry,
     index: usize,
     memid: I32Answer,
@@ -87,16 +92,17 @@ fn put_function(
     out: &mut [u8],
     to: usize,
 ) -> usize
+    requires { ⌜ Near (now s) lib names ⌝ }
     requires { ⌜ found (toldI32 memid) ≡ found (signed32 (funcMemid (now s) ti index)) ⌝ }
     requires { ⌜ found (toldI32 «name_offset») ≡ found (signed32 (funcNameOffset (now s) ti index)) ⌝ }
     ensures { λ r. ⌜ Emitted (map (encode (function edition-one (lib .count))) (functionOf (now (s .entry)) lib ti index (record { at = func .at; len = func .len }))) (put to) (now (out .entry)) (put r) (now (out .exit)) ⌝ }
 {
     let t = values::put_opt_memid(memid, out, to);
-    let t = values::put_name_by(&*s, lib, name_offset, out, t);
+    let t = values::put_name_by(&*s, lib, names, name_offset, out, t);
     let field = emit::word_at(&*s, func.at, 0x04);
     let t = trees::put_tree(&*s, lib, field, out, t);
     let t = put_words(&*s, func.at, out, t);
-    parameters::put_parameters(&*s, lib, func, out, t)
+    parameters::put_parameters(&*s, lib, names, func, out, t)
 }
 
 // The words of the record at `at` from 0x08 on, as two numbers.

@@ -6,6 +6,8 @@ use cursors::iterators::VarStep;
 use cursors::iterators::VarsAnswer;
 use records::typeinfo::TypeInfoEntry;
 use records::var::VarRecord;
+use sheet_trees::names;
+use sheet_trees::names::Names;
 use sheet_trees::trees;
 use sheet_trees::values;
 use typelib::TypeLib;
@@ -20,6 +22,7 @@ ghost use Rattle.description.specs.Sheet.{edition-one, u16, variable};
 ghost use Rattle.describe.specs.Values.{all, numbered};
 ghost use Rattle.describe.specs.Members.{yields, valueWith, variableOf, variablesOf};
 ghost use Rattle.emit.specs.Emit.{Emitted, put, past};
+ghost use Rattle.sheet_trees.specs.Names.{Near};
 ghost use Rattle.sheet_members.specs.Lists.{layAll};
 ghost use Rattle.sheet_members.specs.Words.{valueBytes};
 
@@ -51,6 +54,7 @@ fn put_each(
 ) -> Listed
     ensures { λ r. ⌜ Emitted (layAll (variable edition-one (lib .count)) (numbered (variableOf (now (s .entry)) lib ti) 0 (yields (varStep (now (s .entry))) (cursor .remaining) cursor))) (put to) (now (out .entry)) (put (r .to)) (now (out .exit)) × (r .to ≤ past → r .count ≡ length (yields (varStep (now (s .entry))) (cursor .remaining) cursor)) ⌝ }
 {
+    let names = names::names_of(&*s, lib);
     let mut t = to;
     let mut c = cursor;
     let mut i: usize = 0;
@@ -61,7 +65,7 @@ fn put_each(
         let VarStep::Record(var, next) = c.step(&*s) else {
             return Listed { to: t, count: i };
         };
-        t = put_variable(&*s, lib, ti, i, var, out, t);
+        t = put_variable(&*s, lib, names, ti, i, var, out, t);
         c = next;
         i += 1;
     }
@@ -71,17 +75,19 @@ fn put_each(
 fn put_variable(
     s: &[u8],
     lib: TypeLib,
+    names: Names,
     ti: TypeInfoEntry,
     index: usize,
     var: VarRecord,
     out: &mut [u8],
     to: usize,
 ) -> usize
+    requires { ⌜ Near (now s) lib names ⌝ }
     ensures { λ r. ⌜ Emitted (map (encode (variable edition-one (lib .count))) (variableOf (now (s .entry)) lib ti index (record { at = var .at; len = var .len }))) (put to) (now (out .entry)) (put r) (now (out .exit)) ⌝ }
 {
     let varkind = emit::half_at(&*s, var.at, 0x0C);
     let t = values::put_opt_memid(lib.var_memid(&*s, ti, index), out, to);
-    let t = values::put_name_by(&*s, lib, lib.var_name_offset(&*s, ti, index), out, t);
+    let t = values::put_name_by(&*s, lib, names, lib.var_name_offset(&*s, ti, index), out, t);
     let field = emit::word_at(&*s, var.at, 0x04);
     let t = trees::put_tree(&*s, lib, field, out, t);
     let t = emit::copy_u32(&*s, var.at, 0x08, out, t);

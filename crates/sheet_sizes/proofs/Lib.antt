@@ -1,3 +1,2 @@
 -- Laws that the proofs cite.
 mod SizeLaws
-mod ParameterLaws

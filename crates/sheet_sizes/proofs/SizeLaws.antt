@@ -4,19 +4,15 @@ use mathlib.Core.Bool.{false}
 use mathlib.Core.List.{List, [], _∷_, _++_, append-assoc}
 use Prim.Native.Nat.{ℕ, _+_, _*_, _/_, _%_, _^_, _≤_}
 use native.Mathlib.Omega.{arith}
-use lib.IntN.{ℤ}
 use lib.ListN.{length, length-append}
-use mir.Syntax.{w32}
-use mir.Val.{ofZ}
 use Rattle.util.specs.Read.{le, read, orZero}
 use Rattle.records.specs.declared.answer.Place.{Place}
 use Rattle.records.specs.declared.answer.PlaceAnswer.{PlaceAnswer}
 use Rattle.records.specs.declared.answer.PlaceAnswer.the-variants as place
-use Rattle.records.specs.declared.answer.I32Answer.{I32Answer}
 use Rattle.records.specs.declared.answer.I32Answer.the-variants as i32
 use Rattle.records.specs.Answer.{Answer, value, refused}
 use Rattle.records.specs.Record.{partOf}
-use Rattle.records.specs.Told.{toldI32, toldPlace}
+use Rattle.records.specs.Told.{toldPlace}
 use Rattle.typelib.specs.declared.TypeLib.{TypeLib}
 use Rattle.typelib.specs.Names.{guidPlace, nameBytes}
 use Rattle.typelib.specs.Tables.{tablePlace}
@@ -27,7 +23,7 @@ use Rattle.description.specs.Sheet.{guid, name}
 use Rattle.describe.specs.Answers.{IfValue, told, anything, answers-bind, answers-map, answers-value}
 use Rattle.describe.specs.FitValues.{part-length}
 use Rattle.describe.specs.References.{guidOf}
-use Rattle.describe.specs.Members.{nameOf, nameBy}
+use Rattle.describe.specs.Members.{nameOf}
 use Rattle.emit.specs.Emit.{_▸_, Put, Emitted, countedPart}
 use Rattle.emit.specs.Laws.{known, join}
 use Rattle.sheet_members.specs.Words.{functionWords}
@@ -96,11 +92,6 @@ module _ (s : List ℕ) (lib : TypeLib) where
     pub name-missing : {n : ℕ} → toldPlace a ≡ nameBytes s lib offset → a ≡ place.Refused n
         → Counted 1 to r → Measured (value (encode (opt name) (nameOf s lib offset))) to r
     name-missing e f m = known (part-none s 1 f ∙ name-is s lib offset (toldPlace a) e) (m _ refl)
-
-  pub name-by : {x : I32Answer} {z : ℤ} {n : ℕ} → x ≡ i32.Value z → n ≡ ofZ w32 z
-      → value (encode (opt name) (nameOf s lib n)) ≡ value (encode (opt name) (nameBy s lib (toldI32 x)))
-  unfolding nameOf nameBy
-  name-by {x} {z} {n} e f = rw (e, f)
 
   -- how many functions and variables are declared is four bytes behind the GUID and the name
   pub names-counted : (at : ℕ) {g n : ℕ} {t u v r : Put} → g ≡ orZero (read 4 s (at + 44)) → n ≡ orZero (read 4 s (at + 52))

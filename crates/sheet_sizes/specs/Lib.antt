@@ -1,3 +1,2 @@
 -- Where an emission would end.
 pub mod Measured
-pub mod Room

@@ -10,6 +10,7 @@ use records::answer::I32Answer;
 use records::func::FuncRecord;
 use records::typeinfo::TypeInfoEntry;
 use sheet_members::words;
+use sheet_trees::names::Names;
 use typelib::TypeLib;
 ghost use mathlib.Core.Path.{_≡_};
 ghost use Prim.Native.Nat.{ℕ};
@@ -23,6 +24,7 @@ ghost use Rattle.description.specs.Sheet.{edition-one, u16, function};
 ghost use Rattle.describe.specs.Values.{found, all, numbered};
 ghost use Rattle.describe.specs.Members.{yields, functionOf, functionsOf};
 ghost use Rattle.sheet_members.specs.Lists.{layAll};
+ghost use Rattle.sheet_trees.specs.Names.{Near};
 ghost use Rattle.sheet_sizes.specs.Measured.{Measured};
 
 // The functions of a type: their count, and each.
@@ -40,6 +42,7 @@ fn after_each(s: &[u8], lib: TypeLib, ti: TypeInfoEntry, cursor: FuncCursor, to:
     ensures { λ r. ⌜ Measured (layAll (function edition-one (lib .count)) (numbered (functionOf (now (s .entry)) lib ti) 0 (yields (funcStep (now (s .entry))) (cursor .remaining) cursor))) to r ⌝ }
 {
     let rows = words::func_rows(&*s, ti);
+    let names = sheet_trees::names::names_of(&*s, lib);
     let mut t = to;
     let mut c = cursor;
     let mut i: usize = 0;
@@ -52,7 +55,7 @@ fn after_each(s: &[u8], lib: TypeLib, ti: TypeInfoEntry, cursor: FuncCursor, to:
         };
         let memid = words::word(&*s, rows.memids, i);
         let name_offset = words::word(&*s, rows.names, i);
-        t = after_function(&*s, lib, memid, name_offset, func, t);
+        t = after_function(&*s, lib, names, memid, name_offset, func, t);
         c = next;
         i += 1;
     }
@@ -62,17 +65,19 @@ fn after_each(s: &[u8], lib: TypeLib, ti: TypeInfoEntry, cursor: FuncCursor, to:
 fn after_function(
     s: &[u8],
     lib: TypeLib,
+    names: Names,
     memid: I32Answer,
     name_offset: I32Answer,
     func: FuncRecord,
     to: usize,
 ) -> usize
+    requires { ⌜ Near (now s) lib names ⌝ }
     ensures { λ r. ⌜ ((ti : TypeInfoEntry) (i : ℕ) → found (toldI32 memid) ≡ found (signed32 (funcMemid (now (s .entry)) ti i)) → found (toldI32 «name_offset») ≡ found (signed32 (funcNameOffset (now (s .entry)) ti i)) → Measured (map (encode (function edition-one (lib .count))) (functionOf (now (s .entry)) lib ti i (record { at = func .at; len = func .len }))) to r) ⌝ }
 {
     let t = names::after_memid(memid, to);
-    let t = names::after_name_by(&*s, lib, name_offset, t);
+    let t = names::after_name_by(&*s, lib, names, name_offset, t);
     let t = trees::after_tree(&*s, lib, emit::word_at(s, func.at, 0x04), t);
     // the words of the record from 0x08 on
     let t = crate::ahead(t, 14);
-    parameters::after_parameters(&*s, lib, func, t)
+    parameters::after_parameters(&*s, lib, names, func, t)
 }

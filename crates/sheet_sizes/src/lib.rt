@@ -64,7 +64,8 @@ fn after_names(s: &[u8], lib: TypeLib, at: usize, to: usize) -> usize
     ensures { λ r. ⌜ Measured (value (namesBytes (now (s .entry)) lib at)) to r ⌝ }
 {
     let t = names::after_guid(&*s, lib, emit::word_at(s, at, 0x2C), to);
-    let t = names::after_name(&*s, lib, emit::word_at(s, at, 0x34), t);
+    let names = sheet_trees::names::names_of(&*s, lib);
+    let t = names::after_name(&*s, lib, names, emit::word_at(s, at, 0x34), t);
     ahead(t, 4)
 }
 

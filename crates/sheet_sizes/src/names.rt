@@ -1,6 +1,7 @@
 // Names, identifiers and GUIDs that may be missing: one byte for nothing, or one more than the value has.
 use records::answer::I32Answer;
 use records::answer::PlaceAnswer;
+use sheet_trees::names::Names;
 use typelib::TypeLib;
 ghost use mathlib.Core.Path.{_≡_};
 ghost use Rattle.records.specs.Answer.{value};
@@ -9,6 +10,7 @@ ghost use Rattle.description.specs.Format.{encode, opt};
 ghost use Rattle.description.specs.Sheet.{u32, guid, name};
 ghost use Rattle.describe.specs.References.{guidOf};
 ghost use Rattle.describe.specs.Members.{nameOf, nameBy, memidBy};
+ghost use Rattle.sheet_trees.specs.Names.{Near};
 ghost use Rattle.sheet_sizes.specs.Measured.{Measured};
 
 // The GUID at an offset.
@@ -22,21 +24,29 @@ pub(crate) fn after_guid(s: &[u8], lib: TypeLib, offset: u32, to: usize) -> usiz
 }
 
 // The name at an offset, behind its length in one byte.
-pub(crate) fn after_name(s: &[u8], lib: TypeLib, offset: u32, to: usize) -> usize
+pub(crate) fn after_name(s: &[u8], lib: TypeLib, names: Names, offset: u32, to: usize) -> usize
+    requires { ⌜ Near (now s) lib names ⌝ }
     ensures { λ r. ⌜ Measured (value (encode (opt name) (nameOf (now (s .entry)) lib offset))) to r ⌝ }
 {
-    match lib.name_at(&*s, offset) {
+    match sheet_trees::names::name_at(&*s, lib, names, offset) {
         PlaceAnswer::Value(p) => crate::ahead(to, 2 + p.len),
         PlaceAnswer::Refused(_) => crate::ahead(to, 1),
     }
 }
 
 // A member's name: missing where its offset is.
-pub(crate) fn after_name_by(s: &[u8], lib: TypeLib, offset: I32Answer, to: usize) -> usize
+pub(crate) fn after_name_by(
+    s: &[u8],
+    lib: TypeLib,
+    names: Names,
+    offset: I32Answer,
+    to: usize,
+) -> usize
+    requires { ⌜ Near (now s) lib names ⌝ }
     ensures { λ r. ⌜ Measured (value (encode (opt name) (nameBy (now (s .entry)) lib (toldI32 offset)))) to r ⌝ }
 {
     match offset {
-        I32Answer::Value(x) => after_name(&*s, lib, util::unsigned32(x), to),
+        I32Answer::Value(x) => after_name(&*s, lib, names, util::unsigned32(x), to),
         I32Answer::Refused(_) => crate::ahead(to, 1),
     }
 }

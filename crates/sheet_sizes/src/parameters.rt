@@ -6,6 +6,7 @@ use cursors::iterators::ParamCursor;
 use cursors::iterators::ParamsAnswer;
 use records::answer::I32Answer;
 use records::func::FuncRecord;
+use sheet_trees::names::Names;
 use typelib::TypeLib;
 ghost use mathlib.Core.Path.{_≡_};
 ghost use Rattle.records.specs.Answer.{value, map};
@@ -16,28 +17,51 @@ ghost use Rattle.description.specs.Sheet.{edition-one, u16, constant, parameter
 ghost use Rattle.describe.specs.Values.{all, numbered};
 ghost use Rattle.describe.specs.Members.{yields, constantBy, parameterOf, parametersOf};
 ghost use Rattle.sheet_members.specs.Lists.{layAll};
+ghost use Rattle.sheet_members.specs.Room.{Room};
+ghost use Rattle.sheet_trees.specs.Names.{Near};
 ghost use Rattle.sheet_sizes.specs.Measured.{Measured};
-ghost use Rattle.sheet_sizes.specs.Room.{Room};
 
 // The parameters of a function: their count, and each.
-pub(crate) fn after_parameters(s: &[u8], lib: TypeLib, func: FuncRecord, to: usize) -> usize
+pub(crate) fn after_parameters(
+    s: &[u8],
+    lib: TypeLib,
+    names: Names,
+    func: FuncRecord,
+    to: usize,
+) -> usize
+    requires { ⌜ Near (now s) lib names ⌝ }
     ensures { λ r. ⌜ Measured (map (encode (list u16 (parameter edition-one (lib .count)))) (all (parametersOf (now (s .entry)) lib func))) to r ⌝ }
 {
     match iterators::params(&*s, func) {
-        ParamsAnswer::Value(cursor) => after_each(&*s, lib, func, cursor, crate::ahead(to, 2)),
+        ParamsAnswer::Value(cursor) => after_each(
+            &*s,
+            lib,
+            names,
+            func,
+            cursor,
+            crate::ahead(to, 2),
+        ),
         ParamsAnswer::Refused(_) => crate::ahead(to, 2),
     }
 }
 
 // Each parameter that the cursor yields. They lie in the function's record, so it is not asked for each of them.
-fn after_each(s: &[u8], lib: TypeLib, func: FuncRecord, cursor: ParamCursor, to: usize) -> usize
+fn after_each(
+    s: &[u8],
+    lib: TypeLib,
+    names: Names,
+    func: FuncRecord,
+    cursor: ParamCursor,
+    to: usize,
+) -> usize
+    requires { ⌜ Near (now s) lib names ⌝ }
     requires { ⌜ Room (now s) cursor ⌝ }
     ensures { λ r. ⌜ Measured (layAll (parameter edition-one (lib .count)) (numbered (parameterOf (now (s .entry)) lib func) 0 (yields (paramStep (now (s .entry))) (cursor .remaining) cursor))) to r ⌝ }
 {
     let mut t = to;
     let mut i: usize = 0;
     while i < cursor.remaining {
-        t = after_parameter(&*s, lib, func, i, cursor.pos + 12 * i, t);
+        t = after_parameter(&*s, lib, names, func, i, cursor.pos + 12 * i, t);
         i += 1;
     }
     t
@@ -47,17 +71,19 @@ fn after_each(s: &[u8], lib: TypeLib, func: FuncRecord, cursor: ParamCursor, to:
 fn after_parameter(
     s: &[u8],
     lib: TypeLib,
+    names: Names,
     func: FuncRecord,
     index: usize,
     at: usize,
     to: usize,
 ) -> usize
+    requires { ⌜ Near (now s) lib names ⌝ }
     ensures { λ r. ⌜ Measured (map (encode (parameter edition-one (lib .count))) (parameterOf (now (s .entry)) lib func index (record { at = at; len = 12 }))) to r ⌝ }
 {
     let flags = emit::word_at(s, at, 0x08);
     let field = emit::word_at(s, at, 0x00);
     let t = trees::after_tree(&*s, lib, field, to);
-    let t = names::after_name(&*s, lib, emit::word_at(s, at, 0x04), t);
+    let t = names::after_name(&*s, lib, names, emit::word_at(s, at, 0x04), t);
     if flags / 0x20 % 2 == 1 {
         let offset = func.default_value_offset(&*s, index);
         after_default(&*s, lib, offset, crate::ahead(t, 4))

@@ -7,6 +7,7 @@ use cursors::iterators::VarStep;
 use cursors::iterators::VarsAnswer;
 use records::typeinfo::TypeInfoEntry;
 use records::var::VarRecord;
+use sheet_trees::names::Names;
 use typelib::TypeLib;
 ghost use mathlib.Core.Path.{_≡_};
 ghost use Rattle.records.specs.Answer.{value, map};
@@ -18,6 +19,7 @@ ghost use Rattle.describe.specs.Values.{all, numbered};
 ghost use Rattle.describe.specs.Members.{yields, valueWith, variableOf, variablesOf};
 ghost use Rattle.sheet_members.specs.Lists.{layAll};
 ghost use Rattle.sheet_members.specs.Words.{valueBytes};
+ghost use Rattle.sheet_trees.specs.Names.{Near};
 ghost use Rattle.sheet_sizes.specs.Measured.{Measured};
 
 // The variables of a type: their count, and each.
@@ -34,6 +36,7 @@ pub(crate) fn after_variables(s: &[u8], lib: TypeLib, ti: TypeInfoEntry, to: usi
 fn after_each(s: &[u8], lib: TypeLib, ti: TypeInfoEntry, cursor: VarCursor, to: usize) -> usize
     ensures { λ r. ⌜ Measured (layAll (variable edition-one (lib .count)) (numbered (variableOf (now (s .entry)) lib ti) 0 (yields (varStep (now (s .entry))) (cursor .remaining) cursor))) to r ⌝ }
 {
+    let names = sheet_trees::names::names_of(&*s, lib);
     let mut t = to;
     let mut c = cursor;
     let mut i: usize = 0;
@@ -44,7 +47,7 @@ fn after_each(s: &[u8], lib: TypeLib, ti: TypeInfoEntry, cursor: VarCursor, to: 
         let VarStep::Record(var, next) = c.step(&*s) else {
             return t;
         };
-        t = after_variable(&*s, lib, ti, i, var, t);
+        t = after_variable(&*s, lib, names, ti, i, var, t);
         c = next;
         i += 1;
     }
@@ -54,17 +57,19 @@ fn after_each(s: &[u8], lib: TypeLib, ti: TypeInfoEntry, cursor: VarCursor, to: 
 fn after_variable(
     s: &[u8],
     lib: TypeLib,
+    names: Names,
     ti: TypeInfoEntry,
     index: usize,
     var: VarRecord,
     to: usize,
 ) -> usize
+    requires { ⌜ Near (now s) lib names ⌝ }
     ensures { λ r. ⌜ Measured (map (encode (variable edition-one (lib .count))) (variableOf (now (s .entry)) lib ti index (record { at = var .at; len = var .len }))) to r ⌝ }
 {
     let varkind = emit::half_at(s, var.at, 0x0C);
     let word = emit::word_at(s, var.at, 0x10);
     let t = names::after_memid(lib.var_memid(&*s, ti, index), to);
-    let t = names::after_name_by(&*s, lib, lib.var_name_offset(&*s, ti, index), t);
+    let t = names::after_name_by(&*s, lib, names, lib.var_name_offset(&*s, ti, index), t);
     let t = trees::after_nested(&*s, lib, emit::word_at(s, var.at, 0x04), t);
     // the word at 0x08 and the kind
     let t = crate::ahead(t, 6);

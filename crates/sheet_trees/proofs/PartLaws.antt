@@ -2,7 +2,7 @@
 use mathlib.Core.Path.{_≡_, refl, sym, ap, _∙_}
 use mathlib.Core.Bool.{Bool, true, false, cond}
 use mathlib.Core.Option.{Option, some, none}
-use mathlib.Core.List.{List, [], _∷_, _++_}
+use mathlib.Core.List.{List, [], _∷_}
 use Prim.Native.Nat.{ℕ, zero, suc, _+_, _-_, _*_, _/_, _%_, _^_, _≤_, _<_}
 use native.Mathlib.Omega.{arith}
 use lib.IntN.{ℤ}
@@ -17,13 +17,12 @@ use Rattle.records.specs.declared.answer.PlaceAnswer.{PlaceAnswer}
 use Rattle.records.specs.declared.answer.PlaceAnswer.the-variants as place
 use Rattle.records.specs.declared.answer.I32Answer.{I32Answer}
 use Rattle.records.specs.declared.answer.I32Answer.the-variants as i32
-use Rattle.records.specs.Answer.{Answer, value, refused, map, bind}
+use Rattle.records.specs.Answer.{Answer, value, refused, map}
 use Rattle.records.specs.Counted.{fileNameBytes}
 use Rattle.records.specs.Record.{limit, partOf, bitsOf, flagSet}
 use Rattle.records.specs.Told.{toldI32, toldPlace}
 use Rattle.typelib.specs.declared.TypeLib.{TypeLib}
 use Rattle.records.specs.declared.impfile.ImpFile.{ImpFile}
-use Rattle.records.specs.declared.impinfo.ImpInfo.{ImpInfo}
 use Rattle.typelib.specs.declared.references.ImpFileAnswer.{ImpFileAnswer}
 use Rattle.typelib.specs.declared.references.ImpFileAnswer.the-variants as impFile
 use Rattle.typelib.specs.declared.references.ResolvedAnswer.{ResolvedAnswer}
@@ -38,12 +37,11 @@ use Rattle.typelib.specs.References.{internal as here, external}
 use Rattle.typelib.specs.Told.{toldImpFile, toldHreftype, toldResolved}
 use Rattle.description.specs.Format.{encode, opt, leBytes}
 use Rattle.description.specs.Description.{Bytes, ownIsGuid}
-use Rattle.description.specs.Sheet.{edition-one, u32, guid, name, own, file, bit, import, internal, reference}
-use Rattle.describe.specs.Values.{found, bytesIn, fieldOf}
-use Rattle.describe.specs.References.{guidOf, fileWith, fileOf, ownOf, importOf, referenceFrom, referenceOf}
+use Rattle.description.specs.Sheet.{edition-one, u32, guid, name, file, bit, import, internal, reference}
+use Rattle.describe.specs.Values.{found, bytesIn}
+use Rattle.describe.specs.References.{guidOf, fileOf, ownOf, importOf, referenceFrom, referenceOf}
 use Rattle.describe.specs.Members.{nameOf, nameBy, memidBy}
-use Rattle.emit.specs.Emit.{Put}
-use Rattle.emit.specs.Emit.{countedPart, _▸_, Emitted}
+use Rattle.emit.specs.Emit.{countedPart, _▸_}
 use Rattle.emit.specs.Laws.{byte-first}
 use Rattle.sheet_trees.specs.Parts.{optPart, referenceBytes, internalBytes, indexBytes, hereBytes, ownBytes, fileBytes, importBytes}
 
@@ -88,10 +86,10 @@ module _ (s : List ℕ) where
     unfolding nameOf
     name-is offset a e = rw e (ap value (part-name (found (bytesIn s (nameBytes s lib offset)))))
 
-    pub name-by : {x : I32Answer} {z : ℤ} (a : Answer Place) → x ≡ i32.Value z → a ≡ nameBytes s lib (ofZ w32 z)
-        → value (optPart 1 (found (bytesIn s a))) ≡ value (encode (opt name) (nameBy s lib (toldI32 x)))
-    unfolding nameBy
-    name-by {x} {z} a f e = rw (e, f) (ap value (part-name (found (bytesIn s (nameBytes s lib (ofZ w32 z))))))
+    pub name-by : {x : I32Answer} {z : ℤ} {n : ℕ} → x ≡ i32.Value z → n ≡ ofZ w32 z
+        → value (encode (opt name) (nameOf s lib n)) ≡ value (encode (opt name) (nameBy s lib (toldI32 x)))
+    unfolding nameOf nameBy
+    name-by {x} {z} {n} e f = rw (e, f)
 
     pub name-missing : {x : I32Answer} {n : ℕ} → x ≡ i32.Refused n → value (0 ∷ []) ≡ value (encode (opt name) (nameBy s lib (toldI32 x)))
     unfolding nameBy opt

@@ -1,4 +1,6 @@
 // Numbers, names and GUIDs that may be missing: byte 0 for nothing, or byte 1 and the value.
+use crate::names;
+use crate::names::Names;
 use records::answer;
 use records::answer::I32Answer;
 use records::answer::Place;
@@ -13,6 +15,7 @@ ghost use Rattle.describe.specs.Values.{found, bytesIn};
 ghost use Rattle.describe.specs.References.{guidOf};
 ghost use Rattle.describe.specs.Members.{nameOf, nameBy, memidBy};
 ghost use Rattle.emit.specs.Emit.{Emitted, countedPart, put};
+ghost use Rattle.sheet_trees.specs.Names.{Near};
 ghost use Rattle.sheet_trees.specs.Parts.{optPart};
 
 // The bytes at a place of the library, behind their count in one byte.
@@ -64,14 +67,38 @@ pub fn put_opt_name(s: &[u8], lib: TypeLib, offset: u32, out: &mut [u8], to: usi
     put_opt_counted(&*s, lib.name_at(&*s, offset), out, to)
 }
 
+// The same by names that were looked up, if they are this library's.
+pub fn put_name_in(
+    s: &[u8],
+    lib: TypeLib,
+    names: Names,
+    offset: u32,
+    out: &mut [u8],
+    to: usize,
+) -> usize
+    ensures { λ r. ⌜ (Near (now (s .entry)) lib names → Emitted (value (encode (opt name) (nameOf (now (s .entry)) lib offset))) (put to) (now (out .entry)) (put r) (now (out .exit))) ⌝ }
+{
+    match names::name_at(&*s, lib, names, offset) {
+        PlaceAnswer::Value(p) => put_counted(&*s, p, out, to),
+        PlaceAnswer::Refused(_) => emit::put_u8(out, to, 0),
+    }
+}
+
 // A member's name: missing where its offset is.
-pub fn put_name_by(s: &[u8], lib: TypeLib, offset: I32Answer, out: &mut [u8], to: usize) -> usize
-    ensures { λ r. ⌜ Emitted (value (encode (opt name) (nameBy (now (s .entry)) lib (toldI32 offset)))) (put to) (now (out .entry)) (put r) (now (out .exit)) ⌝ }
+pub fn put_name_by(
+    s: &[u8],
+    lib: TypeLib,
+    names: Names,
+    offset: I32Answer,
+    out: &mut [u8],
+    to: usize,
+) -> usize
+    ensures { λ r. ⌜ (Near (now (s .entry)) lib names → Emitted (value (encode (opt name) (nameBy (now (s .entry)) lib (toldI32 offset)))) (put to) (now (out .entry)) (put r) (now (out .exit))) ⌝ }
 {
     let I32Answer::Value(x) = offset else {
         return emit::put_u8(out, to, 0);
     };
-    put_opt_counted(&*s, lib.name_bytes(&*s, x), out, to)
+    put_name_in(&*s, lib, names, util::unsigned32(x), out, to)
 }
 
 // A member's identifier.

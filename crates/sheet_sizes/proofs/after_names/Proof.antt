@@ -9,17 +9,20 @@ word-at-requires c κs = search needs
 after-guid-requires : tie.Need-after-guid-requires
 after-guid-requires c κs = search needs
 
+names-of-requires : tie.Need-names-of-requires
+names-of-requires c κs = search needs
+
 word-at-requires-2 : tie.Need-word-at-requires-2
 word-at-requires-2 c κs = search needs
 
 after-name-requires : tie.Need-after-name-requires
-after-name-requires c κs = search needs
+after-name-requires c κs = c .before .names-of .ensures
 
 ahead-requires : tie.Need-ahead-requires
 ahead-requires c κs = search needs
 
 returns : tie.Need-returns
-returns c = names-counted _ _ _ (c .before .before .before .before .word-at .ensures) (c .before .before .word-at2 .ensures) (c .before .before .before .after-guid .ensures) (c .before .after-name .ensures) (c .ahead .ensures)
+returns c = names-counted _ _ _ (c .before .before .before .before .before .word-at .ensures) (c .before .before .word-at2 .ensures) (c .before .before .before .before .after-guid .ensures) (c .before .after-name .ensures) (c .ahead .ensures)
 
 pub after-names-spec : {M : Type 1} → statement M
 after-names-spec =
@@ -27,6 +30,7 @@ after-names-spec =
     (tie.spec
     word-at-requires
     after-guid-requires
+    names-of-requires
     word-at-requires-2
     after-name-requires
     ahead-requires

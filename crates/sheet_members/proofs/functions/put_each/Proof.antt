@@ -1,35 +1,38 @@
-use Rattle.typelib.specs.TypeInfos.{funcMemid, funcNameOffset}
-use Rattle.util.specs.Read.{read}
-use Rattle.records.specs.Answer.{orNine}
 use borrow.Author.Needs.{needs}
-use native.Mathlib.Omega.{arith}
-use Prim.Native.Nat.{_+_, _*_, _^_, _<_}
-use Rattle.describe.specs.Values.{found}
-use Rattle.sheet_members.proofs.WordLaws.{found-signed}
-use mathlib.Core.Path.{_≡_, ap, _∙_}
-use lib.ListN.{length}
-use Rattle.records.specs.AnswerLaws.{tells}
-use Rattle.cursors.specs.declared.iterators.FuncCursor.{FuncCursor}
-use Rattle.cursors.specs.Cursors.{funcStep}
-use Rattle.cursors.specs.Told.{toldFuncStep}
-use Rattle.description.specs.Sheet.{edition-one, function}
-use Rattle.describe.specs.Values.{numbered}
-use Rattle.describe.specs.Members.{yields, functionOf}
-use Rattle.describe.specs.YieldLaws.{func-yielded}
-use Rattle.emit.specs.Emit.{put}
-use Rattle.emit.specs.Laws.{Left, left-all, left-less, left-none, refused-stays}
 use Rattle.sheet_members.specs.Lists.{layAll, laid-more, laid-none, counted-more, counted-none}
+use Rattle.emit.specs.Laws.{Left, left-all, left-less, left-none, refused-stays}
+use Rattle.emit.specs.Emit.{put}
+use Rattle.describe.specs.YieldLaws.{func-yielded}
+use Rattle.describe.specs.Members.{yields, functionOf}
+use Rattle.describe.specs.Values.{numbered}
+use Rattle.description.specs.Sheet.{edition-one, function}
+use Rattle.cursors.specs.Told.{toldFuncStep}
+use Rattle.cursors.specs.Cursors.{funcStep}
+use Rattle.cursors.specs.declared.iterators.FuncCursor.{FuncCursor}
+use Rattle.records.specs.AnswerLaws.{tells}
+use lib.ListN.{length}
+use mathlib.Core.Path.{_≡_, ap, _∙_}
+use Rattle.sheet_members.proofs.WordLaws.{found-signed}
+use Rattle.describe.specs.Values.{found}
+use Prim.Native.Nat.{_+_, _*_, _^_, _<_}
+use native.Mathlib.Omega.{arith}
+use Rattle.records.specs.Answer.{orNine}
+use Rattle.util.specs.Read.{read}
+use Rattle.typelib.specs.TypeInfos.{funcMemid, funcNameOffset}
 use Rattle.sheet_members.proofs.functions.put_each.Statement.{statement}
 use Rattle.sheet_members.proofs.functions.put_each.Tie as tie
 
 abbrev Inv-loop : tie.InvT-loop
-Inv-loop s lib ti out₀ to rows t₀ c₀ i₀ out t c i = Left (layAll (function edition-one (lib .count)) (numbered (functionOf s lib ti) 0 (yields (funcStep s) (c₀ .remaining) c₀))) (put t₀) out₀ (layAll (function edition-one (lib .count)) (numbered (functionOf s lib ti) i (yields (funcStep s) (c .remaining) c))) (put t) out × (i + c .remaining ≡ c₀ .remaining) × (c₀ .remaining < 2 ^ 64) × (i + length (yields (funcStep s) (c .remaining) c) ≡ length (yields (funcStep s) (c₀ .remaining) c₀))
+Inv-loop s lib ti out₀ to rows names t₀ c₀ i₀ out t c i = Left (layAll (function edition-one (lib .count)) (numbered (functionOf s lib ti) 0 (yields (funcStep s) (c₀ .remaining) c₀))) (put t₀) out₀ (layAll (function edition-one (lib .count)) (numbered (functionOf s lib ti) i (yields (funcStep s) (c .remaining) c))) (put t) out × (i + c .remaining ≡ c₀ .remaining) × (c₀ .remaining < 2 ^ 64) × (i + length (yields (funcStep s) (c .remaining) c) ≡ length (yields (funcStep s) (c₀ .remaining) c₀))
 
 abbrev μ-loop : tie.MeasureT-loop
-μ-loop s lib ti out₀ to rows t₀ c₀ i₀ out t c i = c .remaining
+μ-loop s lib ti out₀ to rows names t₀ c₀ i₀ out t c i = c .remaining
 
 func-rows-requires : tie.Need-func-rows-requires Inv-loop μ-loop
 func-rows-requires c κs = search needs
+
+names-of-requires : tie.Need-names-of-requires Inv-loop μ-loop
+names-of-requires c κs = search needs
 
 loop-holds : tie.Need-loop-holds Inv-loop μ-loop
 loop-holds c = (left-all, omega arith, omega arith, omega arith)
@@ -50,10 +53,10 @@ enum-told : tie.Need-enum-told Inv-loop μ-loop
 enum-told c = search needs
 
 same-length-2 : tie.Need-same-length-2 Inv-loop μ-loop
-same-length-2 c = left-none (c .before .before .before .before .loop .inv .0) (laid-none (funcStep (c .before .before .before .before .before .before .before .before .args .s .now)) (λ (x : FuncCursor). x .remaining) _ _ _ (tells toldFuncStep (c .enum-told .given .1) (c .before .before .step .ensures))) .keeps
+same-length-2 c = left-none (c .before .before .before .before .loop .inv .0) (laid-none (funcStep (c .before .before .before .before .before .before .before .before .before .args .s .now)) (λ (x : FuncCursor). x .remaining) _ _ _ (tells toldFuncStep (c .enum-told .given .1) (c .before .before .step .ensures))) .keeps
 
 returns-2 : tie.Need-returns-2 Inv-loop μ-loop
-returns-2 c = (left-none (c .before .before .before .before .loop .inv .0) (laid-none (funcStep (c .before .before .before .before .before .before .before .before .args .s .now)) (λ (x : FuncCursor). x .remaining) _ _ _ (tells toldFuncStep (c .enum-told .given .1) (c .before .before .step .ensures))), λ h. counted-none (funcStep (c .before .before .before .before .before .before .before .before .args .s .now)) (λ (x : FuncCursor). x .remaining) _ _ (tells toldFuncStep (c .enum-told .given .1) (c .before .before .step .ensures)) (c .before .before .before .before .loop .inv .3))
+returns-2 c = (left-none (c .before .before .before .before .loop .inv .0) (laid-none (funcStep (c .before .before .before .before .before .before .before .before .before .args .s .now)) (λ (x : FuncCursor). x .remaining) _ _ _ (tells toldFuncStep (c .enum-told .given .1) (c .before .before .step .ensures))), λ h. counted-none (funcStep (c .before .before .before .before .before .before .before .before .before .args .s .now)) (λ (x : FuncCursor). x .remaining) _ _ (tells toldFuncStep (c .enum-told .given .1) (c .before .before .step .ensures)) (c .before .before .before .before .loop .inv .3))
 
 word-requires : tie.Need-word-requires Inv-loop μ-loop
 word-requires c κs = search needs
@@ -62,7 +65,7 @@ word-requires-2 : tie.Need-word-requires-2 Inv-loop μ-loop
 word-requires-2 c κs = search needs
 
 put-function-requires : tie.Need-put-function-requires Inv-loop μ-loop
-put-function-requires c κs = let s = c .before .before .before .before .before .before .before .before .before .before .before .before .args .s .now in let ti = c .before .before .before .before .before .before .before .before .before .before .before .before .args .ti in let i = c .before .before .before .before .before .before .before .before .loop .i in let r = c .before .before .before .before .before .before .before .before .before .func-rows .result in (ap found (c .before .before .word .ensures) ∙ found-signed (orNine (read 4 s (r .memids + 4 * i))) (funcMemid s ti i) (c .before .before .before .before .before .before .before .before .before .func-rows .ensures .memids-are i), ap found (c .before .word2 .ensures) ∙ found-signed (orNine (read 4 s (r .names + 4 * i))) (funcNameOffset s ti i) (c .before .before .before .before .before .before .before .before .before .func-rows .ensures .names-are i))
+put-function-requires c κs = let s = c .before .before .before .before .before .before .before .before .before .before .before .before .before .args .s .now in let ti = c .before .before .before .before .before .before .before .before .before .before .before .before .before .args .ti in let i = c .before .before .before .before .before .before .before .before .loop .i in let r = c .before .before .before .before .before .before .before .before .before .before .func-rows .result in (c .before .before .before .before .before .before .before .before .before .names-of .ensures, (ap found (c .before .before .word .ensures) ∙ found-signed (orNine (read 4 s (r .memids + 4 * i))) (funcMemid s ti i) (c .before .before .before .before .before .before .before .before .before .before .func-rows .ensures .memids-are i), ap found (c .before .word2 .ensures) ∙ found-signed (orNine (read 4 s (r .names + 4 * i))) (funcNameOffset s ti i) (c .before .before .before .before .before .before .before .before .before .before .func-rows .ensures .names-are i)))
 
 add-i : tie.Need-add-i Inv-loop μ-loop
 add-i c = let e = tells toldFuncStep (c .before .before .before .before .before .before .before .func .given .1) (c .before .before .before .before .before .before .before .before .before .step .ensures) in let l = func-yielded _ _ _ _ e .lessens in omega (arith, c .before .before .before .before .before .before .before .before .before .before .before .loop .inv .1, c .before .before .before .before .before .before .before .before .before .before .before .loop .inv .2, l .some)
@@ -71,7 +74,7 @@ loop-less : tie.Need-loop-less Inv-loop μ-loop
 loop-less c = let e = tells toldFuncStep (c .before .before .before .before .before .before .before .func .given .1) (c .before .before .before .before .before .before .before .before .before .step .ensures) in let l = func-yielded _ _ _ _ e .lessens in omega (arith, l .some, l .fewer)
 
 loop-again : tie.Need-loop-again Inv-loop μ-loop
-loop-again c = let e = tells toldFuncStep (c .before .before .before .before .before .before .before .func .given .1) (c .before .before .before .before .before .before .before .before .before .step .ensures) in let l = func-yielded _ _ _ _ e .lessens in (left-less (c .before .before .before .before .before .before .before .before .before .before .before .loop .inv .0) (c .before .before .put-function .ensures) (laid-more (funcStep (c .before .before .before .before .before .before .before .before .before .before .before .before .before .before .before .args .s .now)) (λ (x : FuncCursor). x .remaining) _ _ _ l e), omega (arith, c .before .before .before .before .before .before .before .before .before .before .before .loop .inv .1, l .some, l .fewer), c .before .before .before .before .before .before .before .before .before .before .before .loop .inv .2, counted-more (funcStep (c .before .before .before .before .before .before .before .before .before .before .before .before .before .before .before .args .s .now)) (λ (x : FuncCursor). x .remaining) _ _ l e (c .before .before .before .before .before .before .before .before .before .before .before .loop .inv .3))
+loop-again c = let e = tells toldFuncStep (c .before .before .before .before .before .before .before .func .given .1) (c .before .before .before .before .before .before .before .before .before .step .ensures) in let l = func-yielded _ _ _ _ e .lessens in (left-less (c .before .before .before .before .before .before .before .before .before .before .before .loop .inv .0) (c .before .before .put-function .ensures) (laid-more (funcStep (c .before .before .before .before .before .before .before .before .before .before .before .before .before .before .before .before .args .s .now)) (λ (x : FuncCursor). x .remaining) _ _ _ l e), omega (arith, c .before .before .before .before .before .before .before .before .before .before .before .loop .inv .1, l .some, l .fewer), c .before .before .before .before .before .before .before .before .before .before .before .loop .inv .2, counted-more (funcStep (c .before .before .before .before .before .before .before .before .before .before .before .before .before .before .before .before .args .s .now)) (λ (x : FuncCursor). x .remaining) _ _ l e (c .before .before .before .before .before .before .before .before .before .before .before .loop .inv .3))
 
 pub put-each-spec : {M : Type 1} → statement M
 put-each-spec =
@@ -80,6 +83,7 @@ put-each-spec =
     Inv-loop
     μ-loop
     func-rows-requires
+    names-of-requires
     loop-holds
     same-length
     returns

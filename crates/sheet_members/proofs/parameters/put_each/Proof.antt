@@ -1,63 +1,43 @@
-use borrow.Author.Needs.{needs}
+use Prim.Native.Nat.{_-_}
 use native.Mathlib.Omega.{arith}
-use Prim.Native.Nat.{_+_, _^_, _<_}
-use mathlib.Core.Path.{_≡_}
-use lib.ListN.{length}
-use Rattle.records.specs.AnswerLaws.{tells}
-use Rattle.cursors.specs.declared.iterators.ParamCursor.{ParamCursor}
-use Rattle.cursors.specs.Cursors.{paramStep}
-use Rattle.cursors.specs.Told.{toldParamStep}
-use Rattle.description.specs.Sheet.{edition-one, parameter}
-use Rattle.describe.specs.Values.{numbered}
-use Rattle.describe.specs.Members.{yields, parameterOf}
-use Rattle.describe.specs.YieldLaws.{param-yielded}
 use Rattle.emit.specs.Emit.{put}
-use Rattle.emit.specs.Laws.{Left, left-all, left-less, left-none, refused-stays}
-use Rattle.sheet_members.specs.Lists.{layAll, laid-more, laid-none, counted-more, counted-none}
+use Rattle.emit.specs.Laws.{Left, left-all, left-less, left-none, known}
+use Rattle.sheet_members.proofs.ParameterLaws.{laidFrom, laid-all, laid-one, laid-end}
 use Rattle.sheet_members.proofs.parameters.put_each.Statement.{statement}
 use Rattle.sheet_members.proofs.parameters.put_each.Tie as tie
 
 abbrev Inv-loop : tie.InvT-loop
-Inv-loop s lib func out₀ to t₀ c₀ i₀ out t c i = Left (layAll (parameter edition-one (lib .count)) (numbered (parameterOf s lib func) 0 (yields (paramStep s) (c₀ .remaining) c₀))) (put t₀) out₀ (layAll (parameter edition-one (lib .count)) (numbered (parameterOf s lib func) i (yields (paramStep s) (c .remaining) c))) (put t) out × (i + c .remaining ≡ c₀ .remaining) × (c₀ .remaining < 2 ^ 64) × (i + length (yields (paramStep s) (c .remaining) c) ≡ length (yields (paramStep s) (c₀ .remaining) c₀))
+Inv-loop s lib names func cursor out₀ to t₀ i₀ out t i = Left (laidFrom s cursor lib func 0) (put t₀) out₀ (laidFrom s cursor lib func i) (put t) out
 
 abbrev μ-loop : tie.MeasureT-loop
-μ-loop s lib func out₀ to t₀ c₀ i₀ out t c i = c .remaining
+μ-loop s lib names func cursor out₀ to t₀ i₀ out t i = cursor .remaining - i
 
 loop-holds : tie.Need-loop-holds Inv-loop μ-loop
-loop-holds c = (left-all, omega arith, omega arith, omega arith)
+loop-holds c = left-all
 
-same-length : tie.Need-same-length Inv-loop μ-loop
-same-length c = (c .before .loop .inv .0 .finish _ _ (refused-stays (c .if1 .taken))) .keeps
+mul-put-parameter : tie.Need-mul-put-parameter Inv-loop μ-loop
+mul-put-parameter c = omega (arith, c .before .before .before .before .before .pre .1 .whole, c .before .before .before .before .before .pre .1 .inside, c .before .before .before .before .before .pre .1 .few)
 
-returns : tie.Need-returns Inv-loop μ-loop
-returns c = (c .before .loop .inv .0 .finish _ _ (refused-stays (c .if1 .taken)), λ h. absurd (omega (arith, h, c .if1 .taken)))
-
-step-requires : tie.Need-step-requires Inv-loop μ-loop
-step-requires c κs = search needs
-
-enum-known-param : tie.Need-enum-known-param Inv-loop μ-loop
-enum-known-param c = search needs
-
-enum-told : tie.Need-enum-told Inv-loop μ-loop
-enum-told c = search needs
-
-same-length-2 : tie.Need-same-length-2 Inv-loop μ-loop
-same-length-2 c = left-none (c .before .before .before .before .loop .inv .0) (laid-none (paramStep (c .before .before .before .before .before .before .before .args .s .now)) (λ (x : ParamCursor). x .remaining) _ _ _ (tells toldParamStep (c .enum-told .given .1) (c .before .before .step .ensures))) .keeps
-
-returns-2 : tie.Need-returns-2 Inv-loop μ-loop
-returns-2 c = (left-none (c .before .before .before .before .loop .inv .0) (laid-none (paramStep (c .before .before .before .before .before .before .before .args .s .now)) (λ (x : ParamCursor). x .remaining) _ _ _ (tells toldParamStep (c .enum-told .given .1) (c .before .before .step .ensures))), λ h. counted-none (paramStep (c .before .before .before .before .before .before .before .args .s .now)) (λ (x : ParamCursor). x .remaining) _ _ (tells toldParamStep (c .enum-told .given .1) (c .before .before .step .ensures)) (c .before .before .before .before .loop .inv .3))
+add-put-parameter : tie.Need-add-put-parameter Inv-loop μ-loop
+add-put-parameter c = omega (arith, c .before .before .before .before .before .before .pre .1 .whole, c .before .before .before .before .before .before .pre .1 .inside, c .before .before .before .before .before .before .pre .1 .few)
 
 put-parameter-requires : tie.Need-put-parameter-requires Inv-loop μ-loop
-put-parameter-requires c κs = search needs
+put-parameter-requires c κs = c .before .before .before .before .before .before .before .pre .0
 
 add-i : tie.Need-add-i Inv-loop μ-loop
-add-i c = let e = tells toldParamStep (c .before .before .before .before .before .param .given .1) (c .before .before .before .before .before .before .before .step .ensures) in let l = param-yielded _ _ _ _ e .lessens in omega (arith, c .before .before .before .before .before .before .before .before .before .loop .inv .1, c .before .before .before .before .before .before .before .before .before .loop .inv .2, l .some)
+add-i c = omega arith
 
 loop-less : tie.Need-loop-less Inv-loop μ-loop
-loop-less c = let e = tells toldParamStep (c .before .before .before .before .before .param .given .1) (c .before .before .before .before .before .before .before .step .ensures) in let l = param-yielded _ _ _ _ e .lessens in omega (arith, l .some, l .fewer)
+loop-less c = omega arith
 
 loop-again : tie.Need-loop-again Inv-loop μ-loop
-loop-again c = let e = tells toldParamStep (c .before .before .before .before .before .param .given .1) (c .before .before .before .before .before .before .before .step .ensures) in let l = param-yielded _ _ _ _ e .lessens in (left-less (c .before .before .before .before .before .before .before .before .before .loop .inv .0) (c .before .before .put-parameter .ensures) (laid-more (paramStep (c .before .before .before .before .before .before .before .before .before .before .before .before .args .s .now)) (λ (x : ParamCursor). x .remaining) _ _ _ l e), omega (arith, c .before .before .before .before .before .before .before .before .before .loop .inv .1, l .some, l .fewer), c .before .before .before .before .before .before .before .before .before .loop .inv .2, counted-more (paramStep (c .before .before .before .before .before .before .before .before .before .before .before .before .args .s .now)) (λ (x : ParamCursor). x .remaining) _ _ l e (c .before .before .before .before .before .before .before .before .before .loop .inv .3))
+loop-again c = left-less (c .before .before .before .before .before .before .before .loop .inv) (c .before .before .put-parameter .ensures) (laid-one _ _ _ _ _ (c .before .before .before .before .before .before .before .before .before .before .pre .1) (c .before .before .before .before .before .if1 .taken))
+
+same-length : tie.Need-same-length Inv-loop μ-loop
+same-length c = left-none (c .before .before .loop .inv) (laid-end _ _ _ _ _ (omega arith)) .keeps
+
+returns : tie.Need-returns Inv-loop μ-loop
+returns c = known (laid-all _ _ _ _) (left-none (c .before .before .loop .inv) (laid-end _ _ _ _ _ (omega arith)))
 
 pub put-each-spec : {M : Type 1} → statement M
 put-each-spec =
@@ -66,14 +46,11 @@ put-each-spec =
     Inv-loop
     μ-loop
     loop-holds
-    same-length
-    returns
-    step-requires
-    enum-known-param
-    enum-told
-    same-length-2
-    returns-2
+    mul-put-parameter
+    add-put-parameter
     put-parameter-requires
     add-i
     loop-less
-    loop-again)
+    loop-again
+    same-length
+    returns)

@@ -1,5 +1,5 @@
-use Rattle.sheet_members.proofs.MemberLaws.{variable-is}
 use Rattle.emit.specs.Laws.{known, join}
+use Rattle.sheet_members.proofs.MemberLaws.{variable-is}
 use borrow.Author.Needs.{needs}
 use Rattle.sheet_members.proofs.variables.put_variable.Statement.{statement}
 use Rattle.sheet_members.proofs.variables.put_variable.Tie as tie
@@ -41,7 +41,7 @@ same-length : tie.Need-same-length
 same-length c = search needs
 
 returns : tie.Need-returns
-returns c = known (variable-is _ _ _ _ _ _ _ (c .before .before .before .before .before .before .before .before .before .before .before .before .before .before .before .before .before .before .before .before .before .before .before .before .before .before .before .var-memid .ensures) (c .before .before .before .before .before .before .before .before .before .before .before .before .before .before .before .before .before .before .before .before .before .before .var-name-offset .ensures) (c .before .before .before .before .before .before .before .before .before .before .before .before .before .before .before .before .before .word-at .ensures) (c .before .before .before .before .before .before .before .before .before .before .before .before .before .before .before .before .before .before .before .before .before .before .before .before .before .before .before .before .half-at .ensures) (c .before .before .before .before .word-at2 .ensures)) (join (c .before .before .before .before .before .before .before .before .before .before .before .before .before .before .before .before .before .before .before .before .before .before .before .before .before .put-opt-memid .ensures) (join (c .before .before .before .before .before .before .before .before .before .before .before .before .before .before .before .before .before .before .before .before .put-name-by .ensures) (join (c .before .before .before .before .before .before .before .before .before .before .before .before .before .before .before .put-tree .ensures) (join (c .before .before .before .before .before .before .before .before .before .before .before .copy-u32 .ensures) (join (c .before .before .before .before .before .before .before .put-u16 .ensures) (c .before .before .put-value .ensures))))))
+returns c = known (variable-is _ _ _ _ _ _ _ (c .before .before .before .before .before .before .before .before .before .before .before .before .before .before .before .before .before .before .before .before .before .before .before .before .before .before .before .var-memid .ensures) (c .before .before .before .before .before .before .before .before .before .before .before .before .before .before .before .before .before .before .before .before .before .before .var-name-offset .ensures) (c .before .before .before .before .before .before .before .before .before .before .before .before .before .before .before .before .before .word-at .ensures) (c .before .before .before .before .before .before .before .before .before .before .before .before .before .before .before .before .before .before .before .before .before .before .before .before .before .before .before .before .half-at .ensures) (c .before .before .before .before .word-at2 .ensures)) (join (c .before .before .before .before .before .before .before .before .before .before .before .before .before .before .before .before .before .before .before .before .before .before .before .before .before .put-opt-memid .ensures) (join (c .before .before .before .before .before .before .before .before .before .before .before .before .before .before .before .before .before .before .before .before .put-name-by .ensures (c .before .before .before .before .before .before .before .before .before .before .before .before .before .before .before .before .before .before .before .before .before .before .before .before .before .before .before .before .before .before .before .pre)) (join (c .before .before .before .before .before .before .before .before .before .before .before .before .before .before .before .put-tree .ensures) (join (c .before .before .before .before .before .before .before .before .before .before .before .copy-u32 .ensures) (join (c .before .before .before .before .before .before .before .put-u16 .ensures) (c .before .before .put-value .ensures))))))
 
 pub put-variable-spec : {M : Type 1} → statement M
 put-variable-spec =

@@ -1,8 +1,8 @@
-use Rattle.sheet_sizes.proofs.SizeLaws.{name-by}
-use Rattle.sheet_trees.proofs.PartLaws.{name-missing}
-use Rattle.typelib.specs.TableLaws.{pattern}
-use Rattle.emit.specs.Laws.{known}
 use mathlib.Core.Path.{refl}
+use Rattle.emit.specs.Laws.{known}
+use Rattle.typelib.specs.TableLaws.{pattern}
+use Rattle.sheet_trees.proofs.PartLaws.{name-missing}
+use Rattle.sheet_trees.proofs.PartLaws.{name-by}
 use borrow.Author.Needs.{needs}
 use Rattle.sheet_sizes.proofs.names.after_name_by.Statement.{statement}
 use Rattle.sheet_sizes.proofs.names.after_name_by.Tie as tie
@@ -14,7 +14,7 @@ unsigned32-requires : tie.Need-unsigned32-requires
 unsigned32-requires c κs = search needs
 
 after-name-requires : tie.Need-after-name-requires
-after-name-requires c κs = search needs
+after-name-requires c κs = c .before .before .before .before .before .pre
 
 enum-told : tie.Need-enum-told
 enum-told c = search needs

@@ -1,8 +1,8 @@
-use Rattle.description.specs.Format.{leBytes}
-use Rattle.sheet_members.proofs.MemberLaws.{parameter-is, default-set, default-unset}
-use Rattle.description.specs.Format.{length-leBytes}
-use Rattle.emit.specs.Laws.{known, join}
 use native.Mathlib.Omega.{arith}
+use Rattle.emit.specs.Laws.{known, join}
+use Rattle.description.specs.Format.{length-leBytes}
+use Rattle.sheet_members.proofs.MemberLaws.{parameter-is, default-set, default-unset}
+use Rattle.description.specs.Format.{leBytes}
 use borrow.Author.Needs.{needs}
 use Rattle.sheet_sizes.proofs.parameters.after_parameter.Statement.{statement}
 use Rattle.sheet_sizes.proofs.parameters.after_parameter.Tie as tie
@@ -20,7 +20,7 @@ word-at-requires-3 : tie.Need-word-at-requires-3
 word-at-requires-3 c κs = search needs
 
 after-name-requires : tie.Need-after-name-requires
-after-name-requires c κs = search needs
+after-name-requires c κs = c .before .before .before .before .before .pre
 
 default-value-offset-requires : tie.Need-default-value-offset-requires
 default-value-offset-requires c κs = search needs

@@ -1,9 +1,9 @@
-use Rattle.sheet_sizes.proofs.ParameterLaws.{room}
-use Rattle.sheet_members.proofs.MemberLaws.{parameters-some, parameters-none}
-use Rattle.emit.specs.Laws.{known, join}
-use Rattle.description.specs.Format.{leBytes, length-leBytes}
-use Rattle.cursors.specs.Told.{toldParams}
 use mathlib.Core.Path.{ap, refl}
+use Rattle.cursors.specs.Told.{toldParams}
+use Rattle.description.specs.Format.{leBytes, length-leBytes}
+use Rattle.emit.specs.Laws.{known, join}
+use Rattle.sheet_members.proofs.MemberLaws.{parameters-some, parameters-none}
+use Rattle.sheet_members.proofs.ParameterLaws.{room}
 use borrow.Author.Needs.{needs}
 use Rattle.sheet_sizes.proofs.parameters.after_parameters.Statement.{statement}
 use Rattle.sheet_sizes.proofs.parameters.after_parameters.Tie as tie
@@ -18,7 +18,7 @@ ahead-requires : tie.Need-ahead-requires
 ahead-requires c κs = search needs
 
 after-each-requires : tie.Need-after-each-requires
-after-each-requires c κs = room _ _ (c .before .before .before .before .params .ensures) (ap toldParams (c .before .before .cursor .given .1))
+after-each-requires c κs = (c .before .before .before .before .before .before .pre, room _ _ (c .before .before .before .before .params .ensures) (ap toldParams (c .before .before .cursor .given .1)))
 
 enum-told : tie.Need-enum-told
 enum-told c = search needs

@@ -1,27 +1,30 @@
-use Rattle.sheet_members.specs.Lists.{layAll, laid-more, laid-none}
-use Rattle.emit.specs.Laws.{Left, left-all, left-less, left-none, refused-stays}
-use Rattle.emit.specs.Emit.{put}
-use Rattle.describe.specs.YieldLaws.{var-yielded}
-use Rattle.describe.specs.Members.{yields, variableOf}
-use Rattle.describe.specs.Values.{numbered}
-use Rattle.description.specs.Sheet.{edition-one, variable}
-use Rattle.cursors.specs.Told.{toldVarStep}
-use Rattle.cursors.specs.Cursors.{varStep}
-use Rattle.cursors.specs.declared.iterators.VarCursor.{VarCursor}
-use Rattle.records.specs.AnswerLaws.{tells}
-use mathlib.Core.List.{[]}
-use mathlib.Core.Path.{_≡_}
-use Prim.Native.Nat.{_+_, _^_, _<_}
-use native.Mathlib.Omega.{arith}
 use borrow.Author.Needs.{needs}
+use native.Mathlib.Omega.{arith}
+use Prim.Native.Nat.{_+_, _^_, _<_}
+use mathlib.Core.Path.{_≡_}
+use mathlib.Core.List.{[]}
+use Rattle.records.specs.AnswerLaws.{tells}
+use Rattle.cursors.specs.declared.iterators.VarCursor.{VarCursor}
+use Rattle.cursors.specs.Cursors.{varStep}
+use Rattle.cursors.specs.Told.{toldVarStep}
+use Rattle.description.specs.Sheet.{edition-one, variable}
+use Rattle.describe.specs.Values.{numbered}
+use Rattle.describe.specs.Members.{yields, variableOf}
+use Rattle.describe.specs.YieldLaws.{var-yielded}
+use Rattle.emit.specs.Emit.{put}
+use Rattle.emit.specs.Laws.{Left, left-all, left-less, left-none, refused-stays}
+use Rattle.sheet_members.specs.Lists.{layAll, laid-more, laid-none}
 use Rattle.sheet_sizes.proofs.variables.after_each.Statement.{statement}
 use Rattle.sheet_sizes.proofs.variables.after_each.Tie as tie
 
 abbrev Inv-loop : tie.InvT-loop
-Inv-loop s lib ti to t₀ c₀ i₀ t c i = Left (layAll (variable edition-one (lib .count)) (numbered (variableOf s lib ti) 0 (yields (varStep s) (c₀ .remaining) c₀))) (put t₀) [] (layAll (variable edition-one (lib .count)) (numbered (variableOf s lib ti) i (yields (varStep s) (c .remaining) c))) (put t) [] × (i + c .remaining ≡ c₀ .remaining) × (c₀ .remaining < 2 ^ 64)
+Inv-loop s lib ti to names t₀ c₀ i₀ t c i = Left (layAll (variable edition-one (lib .count)) (numbered (variableOf s lib ti) 0 (yields (varStep s) (c₀ .remaining) c₀))) (put t₀) [] (layAll (variable edition-one (lib .count)) (numbered (variableOf s lib ti) i (yields (varStep s) (c .remaining) c))) (put t) [] × (i + c .remaining ≡ c₀ .remaining) × (c₀ .remaining < 2 ^ 64)
 
 abbrev μ-loop : tie.MeasureT-loop
-μ-loop s lib ti to t₀ c₀ i₀ t c i = c .remaining
+μ-loop s lib ti to names t₀ c₀ i₀ t c i = c .remaining
+
+names-of-requires : tie.Need-names-of-requires Inv-loop μ-loop
+names-of-requires c κs = search needs
 
 loop-holds : tie.Need-loop-holds Inv-loop μ-loop
 loop-holds c = (left-all, omega arith, omega arith)
@@ -39,10 +42,10 @@ enum-told : tie.Need-enum-told Inv-loop μ-loop
 enum-told c = search needs
 
 returns-2 : tie.Need-returns-2 Inv-loop μ-loop
-returns-2 c = left-none (c .before .before .before .before .loop .inv .0) (laid-none (varStep (c .before .before .before .before .before .before .args .s .now)) (λ (x : VarCursor). x .remaining) _ _ _ (tells toldVarStep (c .enum-told .given .1) (c .before .before .step .ensures)))
+returns-2 c = left-none (c .before .before .before .before .loop .inv .0) (laid-none (varStep (c .before .before .before .before .before .before .before .args .s .now)) (λ (x : VarCursor). x .remaining) _ _ _ (tells toldVarStep (c .enum-told .given .1) (c .before .before .step .ensures)))
 
 after-variable-requires : tie.Need-after-variable-requires Inv-loop μ-loop
-after-variable-requires c κs = search needs
+after-variable-requires c κs = c .before .before .before .before .before .before .names-of .ensures
 
 add-i : tie.Need-add-i Inv-loop μ-loop
 add-i c = let e = tells toldVarStep (c .before .before .var .given .1) (c .before .before .before .before .step .ensures) in let l = var-yielded _ _ _ _ e .lessens in omega (arith, c .before .before .before .before .before .before .loop .inv .1, c .before .before .before .before .before .before .loop .inv .2, l .some)
@@ -51,7 +54,7 @@ loop-less : tie.Need-loop-less Inv-loop μ-loop
 loop-less c = let e = tells toldVarStep (c .before .before .var .given .1) (c .before .before .before .before .step .ensures) in let l = var-yielded _ _ _ _ e .lessens in omega (arith, l .some, l .fewer)
 
 loop-again : tie.Need-loop-again Inv-loop μ-loop
-loop-again c = let e = tells toldVarStep (c .before .before .var .given .1) (c .before .before .before .before .step .ensures) in let l = var-yielded _ _ _ _ e .lessens in (left-less (c .before .before .before .before .before .before .loop .inv .0) (c .after-variable .ensures) (laid-more (varStep (c .before .before .before .before .before .before .before .before .args .s .now)) (λ (x : VarCursor). x .remaining) _ _ _ l e), omega (arith, c .before .before .before .before .before .before .loop .inv .1, l .some, l .fewer), c .before .before .before .before .before .before .loop .inv .2)
+loop-again c = let e = tells toldVarStep (c .before .before .var .given .1) (c .before .before .before .before .step .ensures) in let l = var-yielded _ _ _ _ e .lessens in (left-less (c .before .before .before .before .before .before .loop .inv .0) (c .after-variable .ensures) (laid-more (varStep (c .before .before .before .before .before .before .before .before .before .args .s .now)) (λ (x : VarCursor). x .remaining) _ _ _ l e), omega (arith, c .before .before .before .before .before .before .loop .inv .1, l .some, l .fewer), c .before .before .before .before .before .before .loop .inv .2)
 
 pub after-each-spec : {M : Type 1} → statement M
 after-each-spec =
@@ -59,6 +62,7 @@ after-each-spec =
     (tie.spec
     Inv-loop
     μ-loop
+    names-of-requires
     loop-holds
     returns
     step-requires

@@ -1,11 +1,11 @@
-use Rattle.description.specs.Format.{leBytes}
-use Rattle.util.specs.Read.{read, orZero}
-use Prim.Native.Nat.{_+_}
-use mathlib.Core.List.{_++_}
-use Rattle.sheet_sizes.proofs.SizeLaws.{longer, at-once}
-use Rattle.sheet_members.proofs.MemberLaws.{variable-is}
-use Rattle.description.specs.Format.{length-leBytes}
 use Rattle.emit.specs.Laws.{known, join}
+use Rattle.description.specs.Format.{length-leBytes}
+use Rattle.sheet_members.proofs.MemberLaws.{variable-is}
+use Rattle.sheet_sizes.proofs.SizeLaws.{longer, at-once}
+use mathlib.Core.List.{_++_}
+use Prim.Native.Nat.{_+_}
+use Rattle.util.specs.Read.{read, orZero}
+use Rattle.description.specs.Format.{leBytes}
 use borrow.Author.Needs.{needs}
 use Rattle.sheet_sizes.proofs.variables.after_variable.Statement.{statement}
 use Rattle.sheet_sizes.proofs.variables.after_variable.Tie as tie
@@ -26,7 +26,7 @@ var-name-offset-requires : tie.Need-var-name-offset-requires
 var-name-offset-requires c κs = search needs
 
 after-name-by-requires : tie.Need-after-name-by-requires
-after-name-by-requires c κs = search needs
+after-name-by-requires c κs = c .before .before .before .before .before .before .pre
 
 word-at-requires-2 : tie.Need-word-at-requires-2
 word-at-requires-2 c κs = search needs

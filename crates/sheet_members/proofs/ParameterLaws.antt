@@ -1,9 +1,10 @@
 -- The parameters that a cursor yields lie one behind the other in the function's record. Assumes nothing.
 use mathlib.Core.Path.{_≡_, refl, sym, ap, _∙_}
 use mathlib.Core.List.{List, []}
-use Prim.Native.Nat.{ℕ, _+_, _-_, _*_, _≤_, _<_}
+use Prim.Native.Nat.{ℕ, zero, suc, _+_, _-_, _*_, _≤_, _<_}
 use native.Mathlib.Omega.{arith}
 use lib.Dec.{ltb}
+use lib.ListN.{length}
 use borrow.Author.Tests.{ltb-false}
 use Rattle.util.specs.Read.{cond-elim}
 use Rattle.records.specs.declared.answer.Place.{Place}
@@ -16,18 +17,18 @@ use Rattle.typelib.specs.declared.TypeLib.{TypeLib}
 use Rattle.typelib.specs.Tables.{lent}
 use Rattle.typelib.specs.TableLaws.{lent-fits}
 use Rattle.cursors.specs.declared.iterators.ParamCursor.{ParamCursor}
-use Rattle.cursors.specs.Cursors.{yielded, fixedAt, paramCursor, paramsOf, paramAt, paramStepFrom, paramStep}
+use Rattle.cursors.specs.Cursors.{Step, yielded, fixedAt, paramCursor, paramsOf, paramAt, paramStepFrom, paramStep}
 use Rattle.cursors.specs.CursorLaws.{fixed-there, param-some}
 use Rattle.description.specs.Format.{encode}
 use Rattle.description.specs.Description.{Bytes}
 use Rattle.description.specs.Sheet.{edition-one, parameter}
 use Rattle.describe.specs.Answers.{IfValue, told, anything, answers-bind, answers-map, answers-value}
 use Rattle.describe.specs.Values.{numbered}
-use Rattle.describe.specs.Members.{yields, parameterOf}
+use Rattle.describe.specs.Members.{onward, yields, parameterOf}
 use Rattle.describe.specs.YieldLaws.{param-yielded}
 use Rattle.emit.specs.Emit.{_▸_}
 use Rattle.sheet_members.specs.Lists.{layAll, laid-more}
-use Rattle.sheet_sizes.specs.Room.{Room}
+use Rattle.sheet_members.specs.Room.{Room}
 
 module _ (s : List ℕ) where
   cursor-room : (p : Place) (n : ℕ) → Holds s (p .at) (p .len) 24 → Room s (paramCursor p n)
@@ -60,6 +61,20 @@ module _ (s : List ℕ) where
         let p : c .pos + 12 * (i + 1) ≡ c .pos + 12 * i + 12 = omega arith in
         let q : c .remaining - (i + 1) ≡ c .remaining - i - 1 = omega arith in
         rw (p, q) (ap (paramStepFrom (after i)) e)
+
+    yields-on : (k i : ℕ) → Room s c → i + k ≡ c .remaining → k ≡ length (yields (paramStep s) k (after i))
+    unfolding yields
+    yields-on zero i r h = refl
+    yields-on (suc k) i r h =
+        ap suc (yields-on k (i + 1) r (omega arith))
+        ∙ ap (λ (x : Step ParamCursor). length (onward (yields (paramStep s) k) x)) (step i r (omega arith))
+
+    -- as many are yielded as remain
+    pub all-yielded : Room s c → c .remaining ≡ length (yields (paramStep s) (c .remaining) c)
+    all-yielded r =
+        let p : c .pos + 12 * 0 ≡ c .pos = omega arith in
+        let q : c .remaining - 0 ≡ c .remaining = omega arith in
+        yields-on (c .remaining) 0 r (omega arith) ∙ rw (p, q) refl
 
     module _ (lib : TypeLib) (f : FuncRecord) where
       -- the parameters from i on

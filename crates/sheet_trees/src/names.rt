@@ -1,0 +1,52 @@
+// Names, for a traversal that reads many of them: where their table lies is looked up once.
+use records::answer::Place;
+use records::answer::PlaceAnswer;
+use records::field::LIMIT;
+use typelib::TypeLib;
+ghost use mathlib.Core.Path.{_≡_};
+ghost use Rattle.records.specs.Told.{toldPlace};
+ghost use Rattle.typelib.specs.Names.{nameBytes};
+ghost use Rattle.sheet_trees.specs.Names.{Near};
+
+const NAME_TABLE: usize = 7;
+
+// The bytes of the longest name and its intro.
+const LONGEST: usize = 12 + 255;
+
+// Where the table of names starts, and how many of its offsets are near: a name there is wholly inside the library, whatever its
+// length.
+pub struct Names {
+    pub at: u32,
+    pub near: u32,
+}
+
+pub fn names_of(s: &[u8], lib: TypeLib) -> Names
+    ensures { λ r. ⌜ Near (now (s .entry)) lib r ⌝ }
+{
+    let len = s.len();
+    if LONGEST <= len {
+        if len <= LIMIT {
+            if let PlaceAnswer::Value(table) = lib.segment(&*s, NAME_TABLE) {
+                if table.at <= len - LONGEST {
+                    return Names {
+                        at: table.at as u32,
+                        near: (len - LONGEST - table.at) as u32,
+                    };
+                }
+            }
+        }
+    }
+    Names { at: 0, near: 0 }
+}
+
+// The name at an offset, if `names` are this library's: nothing else is asked of one that is near.
+pub fn name_at(s: &[u8], lib: TypeLib, names: Names, offset: u32) -> PlaceAnswer
+    ensures { λ r. ⌜ (Near (now (s .entry)) lib names → toldPlace r ≡ nameBytes (now (s .entry)) lib offset) ⌝ }
+{
+    if offset < names.near {
+        let at = names.at as usize + offset as usize;
+        let len = util::u8_or_zero(&*s, at + 8) as usize;
+        return PlaceAnswer::Value(Place { at: at + 12, len });
+    }
+    lib.name_at(&*s, offset)
+}
