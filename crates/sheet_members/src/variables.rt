@@ -4,10 +4,9 @@ use cursors::iterators;
 use cursors::iterators::VarCursor;
 use cursors::iterators::VarStep;
 use cursors::iterators::VarsAnswer;
+use records::answer::I32Answer;
 use records::typeinfo::TypeInfoEntry;
 use records::var::VarRecord;
-use sheet_trees::names;
-use sheet_trees::names::Names;
 use sheet_trees::trees;
 use sheet_trees::values;
 use typelib::TypeLib;
@@ -15,14 +14,14 @@ ghost use mathlib.Core.Path.{_≡_};
 ghost use Prim.Native.Nat.{_≤_};
 ghost use lib.ListN.{length};
 ghost use Rattle.records.specs.Answer.{value, map};
+ghost use Rattle.records.specs.Told.{toldI32};
 ghost use Rattle.cursors.specs.Cursors.{varStep};
-ghost use Rattle.description.specs.Format.{encode, list};
+ghost use Rattle.description.specs.Format.{encode, opt, list};
 ghost use Rattle.description.specs.Description.{isConstant};
-ghost use Rattle.description.specs.Sheet.{edition-one, u16, variable};
+ghost use Rattle.description.specs.Sheet.{edition-one, u16, name, variable};
 ghost use Rattle.describe.specs.Values.{all, numbered};
-ghost use Rattle.describe.specs.Members.{yields, valueWith, variableOf, variablesOf};
+ghost use Rattle.describe.specs.Members.{nameBy, yields, valueWith, variableOf, variablesOf};
 ghost use Rattle.emit.specs.Emit.{Emitted, put, past};
-ghost use Rattle.sheet_trees.specs.Names.{Near};
 ghost use Rattle.sheet_members.specs.Lists.{layAll};
 ghost use Rattle.sheet_members.specs.Words.{valueBytes};
 
@@ -54,7 +53,6 @@ fn put_each(
 ) -> Listed
     ensures { λ r. ⌜ Emitted (layAll (variable edition-one (lib .count)) (numbered (variableOf (now (s .entry)) lib ti) 0 (yields (varStep (now (s .entry))) (cursor .remaining) cursor))) (put to) (now (out .entry)) (put (r .to)) (now (out .exit)) × (r .to ≤ past → r .count ≡ length (yields (varStep (now (s .entry))) (cursor .remaining) cursor)) ⌝ }
 {
-    let names = names::names_of(&*s, lib);
     let mut t = to;
     let mut c = cursor;
     let mut i: usize = 0;
@@ -65,7 +63,7 @@ fn put_each(
         let VarStep::Record(var, next) = c.step(&*s) else {
             return Listed { to: t, count: i };
         };
-        t = put_variable(&*s, lib, names, ti, i, var, out, t);
+        t = put_variable(&*s, lib, ti, i, var, out, t);
         c = next;
         i += 1;
     }
@@ -75,24 +73,33 @@ fn put_each(
 fn put_variable(
     s: &[u8],
     lib: TypeLib,
-    names: Names,
     ti: TypeInfoEntry,
     index: usize,
     var: VarRecord,
     out: &mut [u8],
     to: usize,
 ) -> usize
-    requires { ⌜ Near (now s) lib names ⌝ }
     ensures { λ r. ⌜ Emitted (map (encode (variable edition-one (lib .count))) (variableOf (now (s .entry)) lib ti index (record { at = var .at; len = var .len }))) (put to) (now (out .entry)) (put r) (now (out .exit)) ⌝ }
 {
     let varkind = emit::half_at(&*s, var.at, 0x0C);
     let t = values::put_opt_memid(lib.var_memid(&*s, ti, index), out, to);
-    let t = values::put_name_by(&*s, lib, names, lib.var_name_offset(&*s, ti, index), out, t);
+    let t = put_name(&*s, lib, lib.var_name_offset(&*s, ti, index), out, t);
     let field = emit::word_at(&*s, var.at, 0x04);
     let t = trees::put_tree(&*s, lib, field, out, t);
     let t = emit::copy_u32(&*s, var.at, 0x08, out, t);
     let t = emit::put_u16(out, t, varkind);
     put_value(&*s, lib, varkind, emit::word_at(&*s, var.at, 0x10), out, t)
+}
+
+// A variable's name: missing where its offset is. (Variables are few, so that no names are looked up for them. They are looked up for
+// functions, whose emitter of names has no other caller, and so is put into them by the compiler.)
+fn put_name(s: &[u8], lib: TypeLib, offset: I32Answer, out: &mut [u8], to: usize) -> usize
+    ensures { λ r. ⌜ Emitted (value (encode (opt name) (nameBy (now (s .entry)) lib (toldI32 offset)))) (put to) (now (out .entry)) (put r) (now (out .exit)) ⌝ }
+{
+    let I32Answer::Value(x) = offset else {
+        return emit::put_u8(out, to, 0);
+    };
+    values::put_opt_name(&*s, lib, util::unsigned32(x), out, to)
 }
 
 // The word at 0x10: a constant where 0x0C holds 2.

@@ -1,30 +1,27 @@
 use borrow.Author.Needs.{needs}
-use Rattle.sheet_members.specs.Lists.{layAll, laid-more, laid-none, counted-more, counted-none}
-use Rattle.emit.specs.Laws.{Left, left-all, left-less, left-none, refused-stays}
-use Rattle.emit.specs.Emit.{put}
-use Rattle.describe.specs.YieldLaws.{var-yielded}
-use Rattle.describe.specs.Members.{yields, variableOf}
-use Rattle.describe.specs.Values.{numbered}
-use Rattle.description.specs.Sheet.{edition-one, variable}
-use Rattle.cursors.specs.Told.{toldVarStep}
-use Rattle.cursors.specs.Cursors.{varStep}
-use Rattle.cursors.specs.declared.iterators.VarCursor.{VarCursor}
-use Rattle.records.specs.AnswerLaws.{tells}
-use lib.ListN.{length}
-use mathlib.Core.Path.{_≡_}
-use Prim.Native.Nat.{_+_, _^_, _<_}
 use native.Mathlib.Omega.{arith}
+use Prim.Native.Nat.{_+_, _^_, _<_}
+use mathlib.Core.Path.{_≡_}
+use lib.ListN.{length}
+use Rattle.records.specs.AnswerLaws.{tells}
+use Rattle.cursors.specs.declared.iterators.VarCursor.{VarCursor}
+use Rattle.cursors.specs.Cursors.{varStep}
+use Rattle.cursors.specs.Told.{toldVarStep}
+use Rattle.description.specs.Sheet.{edition-one, variable}
+use Rattle.describe.specs.Values.{numbered}
+use Rattle.describe.specs.Members.{yields, variableOf}
+use Rattle.describe.specs.YieldLaws.{var-yielded}
+use Rattle.emit.specs.Emit.{put}
+use Rattle.emit.specs.Laws.{Left, left-all, left-less, left-none, refused-stays}
+use Rattle.sheet_members.specs.Lists.{layAll, laid-more, laid-none, counted-more, counted-none}
 use Rattle.sheet_members.proofs.variables.put_each.Statement.{statement}
 use Rattle.sheet_members.proofs.variables.put_each.Tie as tie
 
 abbrev Inv-loop : tie.InvT-loop
-Inv-loop s lib ti out₀ to names t₀ c₀ i₀ out t c i = Left (layAll (variable edition-one (lib .count)) (numbered (variableOf s lib ti) 0 (yields (varStep s) (c₀ .remaining) c₀))) (put t₀) out₀ (layAll (variable edition-one (lib .count)) (numbered (variableOf s lib ti) i (yields (varStep s) (c .remaining) c))) (put t) out × (i + c .remaining ≡ c₀ .remaining) × (c₀ .remaining < 2 ^ 64) × (i + length (yields (varStep s) (c .remaining) c) ≡ length (yields (varStep s) (c₀ .remaining) c₀))
+Inv-loop s lib ti out₀ to t₀ c₀ i₀ out t c i = Left (layAll (variable edition-one (lib .count)) (numbered (variableOf s lib ti) 0 (yields (varStep s) (c₀ .remaining) c₀))) (put t₀) out₀ (layAll (variable edition-one (lib .count)) (numbered (variableOf s lib ti) i (yields (varStep s) (c .remaining) c))) (put t) out × (i + c .remaining ≡ c₀ .remaining) × (c₀ .remaining < 2 ^ 64) × (i + length (yields (varStep s) (c .remaining) c) ≡ length (yields (varStep s) (c₀ .remaining) c₀))
 
 abbrev μ-loop : tie.MeasureT-loop
-μ-loop s lib ti out₀ to names t₀ c₀ i₀ out t c i = c .remaining
-
-names-of-requires : tie.Need-names-of-requires Inv-loop μ-loop
-names-of-requires c κs = search needs
+μ-loop s lib ti out₀ to t₀ c₀ i₀ out t c i = c .remaining
 
 loop-holds : tie.Need-loop-holds Inv-loop μ-loop
 loop-holds c = (left-all, omega arith, omega arith, omega arith)
@@ -45,13 +42,13 @@ enum-told : tie.Need-enum-told Inv-loop μ-loop
 enum-told c = search needs
 
 same-length-2 : tie.Need-same-length-2 Inv-loop μ-loop
-same-length-2 c = left-none (c .before .before .before .before .loop .inv .0) (laid-none (varStep (c .before .before .before .before .before .before .before .before .args .s .now)) (λ (x : VarCursor). x .remaining) _ _ _ (tells toldVarStep (c .enum-told .given .1) (c .before .before .step .ensures))) .keeps
+same-length-2 c = left-none (c .before .before .before .before .loop .inv .0) (laid-none (varStep (c .before .before .before .before .before .before .before .args .s .now)) (λ (x : VarCursor). x .remaining) _ _ _ (tells toldVarStep (c .enum-told .given .1) (c .before .before .step .ensures))) .keeps
 
 returns-2 : tie.Need-returns-2 Inv-loop μ-loop
-returns-2 c = (left-none (c .before .before .before .before .loop .inv .0) (laid-none (varStep (c .before .before .before .before .before .before .before .before .args .s .now)) (λ (x : VarCursor). x .remaining) _ _ _ (tells toldVarStep (c .enum-told .given .1) (c .before .before .step .ensures))), λ h. counted-none (varStep (c .before .before .before .before .before .before .before .before .args .s .now)) (λ (x : VarCursor). x .remaining) _ _ (tells toldVarStep (c .enum-told .given .1) (c .before .before .step .ensures)) (c .before .before .before .before .loop .inv .3))
+returns-2 c = (left-none (c .before .before .before .before .loop .inv .0) (laid-none (varStep (c .before .before .before .before .before .before .before .args .s .now)) (λ (x : VarCursor). x .remaining) _ _ _ (tells toldVarStep (c .enum-told .given .1) (c .before .before .step .ensures))), λ h. counted-none (varStep (c .before .before .before .before .before .before .before .args .s .now)) (λ (x : VarCursor). x .remaining) _ _ (tells toldVarStep (c .enum-told .given .1) (c .before .before .step .ensures)) (c .before .before .before .before .loop .inv .3))
 
 put-variable-requires : tie.Need-put-variable-requires Inv-loop μ-loop
-put-variable-requires c κs = c .before .before .before .before .before .before .before .names-of .ensures
+put-variable-requires c κs = search needs
 
 add-i : tie.Need-add-i Inv-loop μ-loop
 add-i c = let e = tells toldVarStep (c .before .before .before .before .before .var .given .1) (c .before .before .before .before .before .before .before .step .ensures) in let l = var-yielded _ _ _ _ e .lessens in omega (arith, c .before .before .before .before .before .before .before .before .before .loop .inv .1, c .before .before .before .before .before .before .before .before .before .loop .inv .2, l .some)
@@ -60,7 +57,7 @@ loop-less : tie.Need-loop-less Inv-loop μ-loop
 loop-less c = let e = tells toldVarStep (c .before .before .before .before .before .var .given .1) (c .before .before .before .before .before .before .before .step .ensures) in let l = var-yielded _ _ _ _ e .lessens in omega (arith, l .some, l .fewer)
 
 loop-again : tie.Need-loop-again Inv-loop μ-loop
-loop-again c = let e = tells toldVarStep (c .before .before .before .before .before .var .given .1) (c .before .before .before .before .before .before .before .step .ensures) in let l = var-yielded _ _ _ _ e .lessens in (left-less (c .before .before .before .before .before .before .before .before .before .loop .inv .0) (c .before .before .put-variable .ensures) (laid-more (varStep (c .before .before .before .before .before .before .before .before .before .before .before .before .before .args .s .now)) (λ (x : VarCursor). x .remaining) _ _ _ l e), omega (arith, c .before .before .before .before .before .before .before .before .before .loop .inv .1, l .some, l .fewer), c .before .before .before .before .before .before .before .before .before .loop .inv .2, counted-more (varStep (c .before .before .before .before .before .before .before .before .before .before .before .before .before .args .s .now)) (λ (x : VarCursor). x .remaining) _ _ l e (c .before .before .before .before .before .before .before .before .before .loop .inv .3))
+loop-again c = let e = tells toldVarStep (c .before .before .before .before .before .var .given .1) (c .before .before .before .before .before .before .before .step .ensures) in let l = var-yielded _ _ _ _ e .lessens in (left-less (c .before .before .before .before .before .before .before .before .before .loop .inv .0) (c .before .before .put-variable .ensures) (laid-more (varStep (c .before .before .before .before .before .before .before .before .before .before .before .before .args .s .now)) (λ (x : VarCursor). x .remaining) _ _ _ l e), omega (arith, c .before .before .before .before .before .before .before .before .before .loop .inv .1, l .some, l .fewer), c .before .before .before .before .before .before .before .before .before .loop .inv .2, counted-more (varStep (c .before .before .before .before .before .before .before .before .before .before .before .before .args .s .now)) (λ (x : VarCursor). x .remaining) _ _ l e (c .before .before .before .before .before .before .before .before .before .loop .inv .3))
 
 pub put-each-spec : {M : Type 1} → statement M
 put-each-spec =
@@ -68,7 +65,6 @@ put-each-spec =
     (tie.spec
     Inv-loop
     μ-loop
-    names-of-requires
     loop-holds
     same-length
     returns

@@ -1,5 +1,5 @@
-use Rattle.emit.specs.Laws.{known, join}
 use Rattle.sheet_members.proofs.MemberLaws.{variable-is}
+use Rattle.emit.specs.Laws.{known, join}
 use borrow.Author.Needs.{needs}
 use Rattle.sheet_members.proofs.variables.put_variable.Statement.{statement}
 use Rattle.sheet_members.proofs.variables.put_variable.Tie as tie
@@ -16,8 +16,8 @@ put-opt-memid-requires c κs = search needs
 var-name-offset-requires : tie.Need-var-name-offset-requires
 var-name-offset-requires c κs = search needs
 
-put-name-by-requires : tie.Need-put-name-by-requires
-put-name-by-requires c κs = search needs
+put-name-requires : tie.Need-put-name-requires
+put-name-requires c κs = search needs
 
 word-at-requires : tie.Need-word-at-requires
 word-at-requires c κs = search needs
@@ -41,7 +41,7 @@ same-length : tie.Need-same-length
 same-length c = search needs
 
 returns : tie.Need-returns
-returns c = known (variable-is _ _ _ _ _ _ _ (c .before .before .before .before .before .before .before .before .before .before .before .before .before .before .before .before .before .before .before .before .before .before .before .before .before .before .before .var-memid .ensures) (c .before .before .before .before .before .before .before .before .before .before .before .before .before .before .before .before .before .before .before .before .before .before .var-name-offset .ensures) (c .before .before .before .before .before .before .before .before .before .before .before .before .before .before .before .before .before .word-at .ensures) (c .before .before .before .before .before .before .before .before .before .before .before .before .before .before .before .before .before .before .before .before .before .before .before .before .before .before .before .before .half-at .ensures) (c .before .before .before .before .word-at2 .ensures)) (join (c .before .before .before .before .before .before .before .before .before .before .before .before .before .before .before .before .before .before .before .before .before .before .before .before .before .put-opt-memid .ensures) (join (c .before .before .before .before .before .before .before .before .before .before .before .before .before .before .before .before .before .before .before .before .put-name-by .ensures (c .before .before .before .before .before .before .before .before .before .before .before .before .before .before .before .before .before .before .before .before .before .before .before .before .before .before .before .before .before .before .before .pre)) (join (c .before .before .before .before .before .before .before .before .before .before .before .before .before .before .before .put-tree .ensures) (join (c .before .before .before .before .before .before .before .before .before .before .before .copy-u32 .ensures) (join (c .before .before .before .before .before .before .before .put-u16 .ensures) (c .before .before .put-value .ensures))))))
+returns c = known (variable-is _ _ _ _ _ _ _ (c .before .before .before .before .before .before .before .before .before .before .before .before .before .before .before .before .before .before .before .before .before .before .before .before .before .before .before .var-memid .ensures) (c .before .before .before .before .before .before .before .before .before .before .before .before .before .before .before .before .before .before .before .before .before .before .var-name-offset .ensures) (c .before .before .before .before .before .before .before .before .before .before .before .before .before .before .before .before .before .word-at .ensures) (c .before .before .before .before .before .before .before .before .before .before .before .before .before .before .before .before .before .before .before .before .before .before .before .before .before .before .before .before .half-at .ensures) (c .before .before .before .before .word-at2 .ensures)) (join (c .before .before .before .before .before .before .before .before .before .before .before .before .before .before .before .before .before .before .before .before .before .before .before .before .before .put-opt-memid .ensures) (join (c .before .before .before .before .before .before .before .before .before .before .before .before .before .before .before .before .before .before .before .before .put-name .ensures) (join (c .before .before .before .before .before .before .before .before .before .before .before .before .before .before .before .put-tree .ensures) (join (c .before .before .before .before .before .before .before .before .before .before .before .copy-u32 .ensures) (join (c .before .before .before .before .before .before .before .put-u16 .ensures) (c .before .before .put-value .ensures))))))
 
 pub put-variable-spec : {M : Type 1} → statement M
 put-variable-spec =
@@ -51,7 +51,7 @@ put-variable-spec =
     var-memid-requires
     put-opt-memid-requires
     var-name-offset-requires
-    put-name-by-requires
+    put-name-requires
     word-at-requires
     put-tree-requires
     copy-u32-requires
