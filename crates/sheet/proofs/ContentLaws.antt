@@ -25,7 +25,7 @@ use Rattle.emit.specs.Emit.{At, Refused, past, put}
 use Rattle.emit.specs.Emit.{_▸_, advance, moved, Emitted, Overwritten}
 use Rattle.emit.specs.Laws.{put-at, put-refused, place-is, sets-append, sets-append-front, sets-front, take-sets, advance-within, moved-join, skip, known}
 use Rattle.sheet_members.specs.Lists.{layAll, all-laid, Sized, sized, unsized, all-sized}
-use Rattle.sheet_types.specs.Bodies.{bodies, bodies-more}
+use Rattle.sheet_members.specs.Bodies.{bodies, bodies-more}
 use Rattle.sheet.specs.Contents.{sheetEmitted, lenOf, lensOf, Patched, LaidTwo, Twofold}
 
 pub header-is : (s : List ℕ) (lib : TypeLib) {g n : ℕ} → g ≡ orZero (read 4 s (0 + 8)) → n ≡ orZero (read 4 s (0 + 56))

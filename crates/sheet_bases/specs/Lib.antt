@@ -1,2 +1,3 @@
--- The bytes of what a type is based on.
+-- The bytes of the parts of a type, what it is based on among them.
 pub mod Bases
+pub mod Types

@@ -27,8 +27,8 @@ use Rattle.describe.specs.Members.{nameOf}
 use Rattle.emit.specs.Emit.{_▸_, Put, Emitted, countedPart}
 use Rattle.emit.specs.Laws.{known, join}
 use Rattle.sheet_members.specs.Words.{functionWords}
-use Rattle.sheet_types.specs.Types.{headBytes, namesBytes}
-use Rattle.sheet_types.proofs.TypeLaws.{names-is}
+use Rattle.sheet_bases.specs.Types.{headBytes, namesBytes}
+use Rattle.sheet_bases.proofs.TypeLaws.{names-is}
 use Rattle.sheet_trees.proofs.PartLaws.{part-some, part-none, counted-some, guid-is, name-is}
 use Rattle.sheet_sizes.specs.Measured.{Measured, Counted}
 

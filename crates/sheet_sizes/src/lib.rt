@@ -9,7 +9,7 @@ ghost use Rattle.description.specs.Format.{encode};
 ghost use Rattle.description.specs.Sheet.{edition-one, typeInfo};
 ghost use Rattle.describe.specs.Types.{typeAt, typeOf, typesFrom};
 ghost use Rattle.sheet_members.specs.Lists.{layAll};
-ghost use Rattle.sheet_types.specs.Types.{namesBytes};
+ghost use Rattle.sheet_bases.specs.Types.{namesBytes};
 ghost use Rattle.sheet_sizes.specs.Measured.{Measured, Counted};
 
 mod functions;

@@ -12,7 +12,7 @@ ghost use Rattle.description.specs.Format.{encode};
 ghost use Rattle.description.specs.Sheet.{edition-one, typeInfo};
 ghost use Rattle.describe.specs.Types.{typeAt, typeOf};
 ghost use Rattle.emit.specs.Emit.{Emitted, put};
-ghost use Rattle.sheet_types.specs.Types.{headBytes, namesBytes};
+ghost use Rattle.sheet_bases.specs.Types.{headBytes, namesBytes};
 
 // Type `index` of the library; 6, 7 or 8 where there is none.
 pub fn put_type_of(s: &[u8], lib: TypeLib, index: usize, out: &mut [u8], to: usize) -> usize

@@ -1,7 +1,7 @@
 use Rattle.sheet_sizes.proofs.SizeLaws.{head-length}
 use Rattle.sheet_sizes.specs.Measured.{measured}
-use Rattle.sheet_types.proofs.TypeLaws.{type-is}
-use Rattle.sheet_types.specs.Types.{headBytes}
+use Rattle.sheet_bases.proofs.TypeLaws.{type-is}
+use Rattle.sheet_bases.specs.Types.{headBytes}
 use Rattle.emit.specs.Laws.{known, join}
 use borrow.Author.Needs.{needs}
 use Rattle.sheet_sizes.proofs.after_type.Statement.{statement}

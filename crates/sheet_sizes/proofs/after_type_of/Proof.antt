@@ -1,7 +1,7 @@
 use mathlib.Core.Path.{ap}
 use Rattle.emit.specs.Laws.{known}
 use Rattle.typelib.specs.Told.{toldTypeInfo}
-use Rattle.sheet_types.proofs.TypeLaws.{type-found, type-missing}
+use Rattle.sheet_bases.proofs.TypeLaws.{type-found, type-missing}
 use borrow.Author.Needs.{needs}
 use Rattle.sheet_sizes.proofs.after_type_of.Statement.{statement}
 use Rattle.sheet_sizes.proofs.after_type_of.Tie as tie

@@ -5,7 +5,7 @@ use mathlib.Core.Path.{_≡_}
 use mathlib.Core.List.{[]}
 use Rattle.emit.specs.Emit.{put}
 use Rattle.emit.specs.Laws.{Left, left-all, left-less, left-none, refused-stays, known}
-use Rattle.sheet_types.specs.Bodies.{bodies, bodies-all, bodies-more, bodies-none}
+use Rattle.sheet_members.specs.Bodies.{bodies, bodies-all, bodies-more, bodies-none}
 use Rattle.sheet_sizes.proofs.types.Statement.{statement}
 use Rattle.sheet_sizes.proofs.types.Tie as tie
 

@@ -1,4 +1,4 @@
-use Rattle.sheet_types.proofs.TypeLaws.{head-is}
+use Rattle.sheet_bases.proofs.TypeLaws.{head-is}
 use Rattle.emit.specs.Laws.{known, join}
 use borrow.Author.Needs.{needs}
 use Rattle.sheet_types.proofs.put_head.Statement.{statement}

@@ -1,4 +1,4 @@
-use Rattle.sheet_types.proofs.TypeLaws.{names-is}
+use Rattle.sheet_bases.proofs.TypeLaws.{names-is}
 use Rattle.emit.specs.Laws.{known, join}
 use borrow.Author.Needs.{needs}
 use Rattle.sheet_types.proofs.put_names.Statement.{statement}

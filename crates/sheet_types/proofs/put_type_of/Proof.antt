@@ -1,4 +1,4 @@
-use Rattle.sheet_types.proofs.TypeLaws.{type-found, type-missing}
+use Rattle.sheet_bases.proofs.TypeLaws.{type-found, type-missing}
 use Rattle.emit.specs.Laws.{known}
 use Rattle.typelib.specs.Told.{toldTypeInfo}
 use mathlib.Core.Path.{ap}

@@ -17,8 +17,8 @@ use Rattle.describe.specs.References.{guidOf}
 use Rattle.describe.specs.Members.{nameOf, functionsOf, variablesOf}
 use Rattle.describe.specs.Types.{baseOf, kindAt, typeWith, typeAt, typeOf}
 use Rattle.emit.specs.Emit.{_▸_}
 use Rattle.sheet_bases.specs.Bases.{shapeEmitted, baseEmitted}
-use Rattle.sheet_types.specs.Types.{headBytes, namesBytes}
+use Rattle.sheet_bases.specs.Types.{headBytes, namesBytes}
 
 pub head-is : (s : List ℕ) (at kind : ℕ)
     → value (leBytes 1 kind) ▸ (value (leBytes 4 (orZero (read 4 s (at + 48)))) ▸ value (leBytes 4 (orZero (read 4 s (at + 56))))) ≡ value (headBytes s at kind)

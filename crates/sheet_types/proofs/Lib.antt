@@ -1,2 +1,0 @@
--- Laws that the emitters cite.
-pub mod TypeLaws

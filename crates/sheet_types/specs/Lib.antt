@@ -1,3 +1,0 @@
--- The bytes of the parts of a type.
-pub mod Bodies
-pub mod Types
