@@ -7,7 +7,7 @@ use lib.Dec.{leb, ltb, eqb}
 use lib.ListN.{length}
 use Rattle.util.specs.Read.{le, read}
 use Rattle.records.specs.declared.answer.Place.{Place}
-use Rattle.records.specs.declared.func.FuncRecord.{FuncRecord}
+use Rattle.member_records.specs.declared.func.FuncRecord.{FuncRecord}
 use Rattle.records.specs.declared.typeinfo.TypeInfoEntry.{TypeInfoEntry}
 use Rattle.records.specs.Answer.{Answer, value, refused, map, bind}
 use Rattle.records.specs.Attributes.{argumentCount}

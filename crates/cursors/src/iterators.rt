@@ -3,6 +3,9 @@
 //
 // A cursor goes in by value and comes back. One step replies as one `next` of the source: the record
 // and the next cursor, or a refusal and the same cursor. 9 is the end.
+use member_records::func::FuncRecord;
+use member_records::param::ParameterInfo;
+use member_records::var::VarRecord;
 use records::answer::Place;
 use records::answer::PlaceAnswer;
 use records::answer::U16Answer;
@@ -10,10 +13,7 @@ use records::answer::U32Answer;
 use records::answer::UsizeAnswer;
 use records::field;
 use records::field::LIMIT;
-use records::func::FuncRecord;
-use records::param::ParameterInfo;
 use records::typeinfo::TypeInfoEntry;
-use records::var::VarRecord;
 use typelib::typeinfos::Counts;
 use typelib::typeinfos::CountsAnswer;
 use util::NEGATIVE;

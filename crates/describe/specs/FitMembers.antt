@@ -15,7 +15,7 @@ use mir.Syntax.{w16, w32}
 use mir.Val.{toZ, ofZ, sel}
 use Rattle.util.specs.Read.{cond-elim}
 use Rattle.records.specs.declared.answer.Place.{Place}
-use Rattle.records.specs.declared.func.FuncRecord.{FuncRecord}
+use Rattle.member_records.specs.declared.func.FuncRecord.{FuncRecord}
 use Rattle.records.specs.declared.typeinfo.TypeInfoEntry.{TypeInfoEntry}
 use Rattle.records.specs.Answer.{Answer, value, refused, map}
 use Rattle.records.specs.Attributes.{atLeastZero, argumentCount, defaultValueOffset}

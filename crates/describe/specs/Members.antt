@@ -8,7 +8,7 @@ use lib.IntN.{ℤ}
 use mir.Syntax.{w32}
 use mir.Val.{ofZ}
 use Rattle.records.specs.declared.answer.Place.{Place}
-use Rattle.records.specs.declared.func.FuncRecord.{FuncRecord}
+use Rattle.member_records.specs.declared.func.FuncRecord.{FuncRecord}
 use Rattle.records.specs.declared.typeinfo.TypeInfoEntry.{TypeInfoEntry}
 use Rattle.records.specs.Answer.{Answer, value, refused, map, bind}
 use Rattle.records.specs.Attributes.{defaultValueOffset}

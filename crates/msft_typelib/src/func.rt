@@ -1,5 +1,5 @@
 // The record of a function, by its place.
-use records::func::FuncRecord;
+use member_records::func::FuncRecord;
 use replies::reply;
 ghost use Rattle.replies.specs.Call.{bits16, bits32, laid, outcome, past, reply, truth};
 ghost use Rattle.rows.specs.Values.{place, size};

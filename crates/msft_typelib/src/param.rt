@@ -1,5 +1,5 @@
 // A function's parameter, by its place.
-use records::param::ParameterInfo;
+use member_records::param::ParameterInfo;
 use replies::reply;
 ghost use Rattle.replies.specs.Call.{bits32, past, reply, truth};
 ghost use Rattle.records.specs.Answer.{map};

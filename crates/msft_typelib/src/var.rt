@@ -1,5 +1,5 @@
 // The record of a variable, by its place.
-use records::var::VarRecord;
+use member_records::var::VarRecord;
 use replies::reply;
 ghost use Rattle.replies.specs.Call.{bits16, bits32, laid, outcome, past, reply};
 ghost use Rattle.rows.specs.Values.{place, size};

@@ -5,7 +5,7 @@ use Prim.Native.Nat.{ℕ, _+_, _*_, _/_}
 use lib.Dec.{leb}
 use lib.IntN.{ℤ}
 use lib.ListN.{take, drop}
-use Rattle.util.specs.Utf8.{utf8}
+use Rattle.utf8.specs.Utf8.{utf8}
 use Rattle.records.specs.declared.answer.Place.{Place}
 use Rattle.records.specs.declared.arraydesc.SafeArrayBound.{SafeArrayBound}
 use Rattle.records.specs.Answer.{Answer, value, refused, map, bind}

@@ -25,8 +25,6 @@ use Rattle.records.specs.declared.arraydesc.BoundAnswer.{BoundAnswer}
 use Rattle.records.specs.declared.arraydesc.BoundAnswer.the-variants as bound
 use Rattle.records.specs.declared.guidentry.GuidAnswer.{GuidAnswer}
 use Rattle.records.specs.declared.guidentry.GuidAnswer.the-variants as guid
-use Rattle.records.specs.declared.var.VarAnswer.{VarAnswer}
-use Rattle.records.specs.declared.var.VarAnswer.the-variants as var
 use Rattle.records.specs.declared.typeinfo.KindAnswer.{KindAnswer}
 use Rattle.records.specs.declared.typeinfo.KindAnswer.the-variants as kind
 use Rattle.records.specs.declared.types.TypeKind.{TypeKind}
@@ -70,9 +68,6 @@ toldHeld held.Inside = value tt
 toldHeld (held.Refused n) = refused n
 
 -- a record that was answered is its place
-abbrev pub toldVar : VarAnswer → Answer Place
-toldVar (var.Value v) = value (record { at = v .at; len = v .len })
-toldVar (var.Refused n) = refused n
 
 abbrev pub toldGuid : GuidAnswer → Answer Place
 toldGuid (guid.Value g) = value (record { at = g .at; len = g .len })

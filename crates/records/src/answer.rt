@@ -76,7 +76,7 @@ pub fn text(s: &[u8], answer: PlaceAnswer) -> PlaceAnswer
 {
     match answer {
         PlaceAnswer::Value(place) => {
-            if util::utf8::is_utf8(part(s, PlaceAnswer::Value(place))) {
+            if utf8::is_utf8(part(s, PlaceAnswer::Value(place))) {
                 PlaceAnswer::Value(place)
             } else {
                 PlaceAnswer::Refused(9)

@@ -6,14 +6,11 @@
 pub mod answer;
 pub mod arraydesc;
 pub mod field;
-pub mod func;
 pub mod guid;
 pub mod guidentry;
 pub mod impfile;
 pub mod impinfo;
 pub mod name;
-pub mod param;
 pub mod refrecord;
 pub mod typeinfo;
 pub mod types;
-pub mod var;

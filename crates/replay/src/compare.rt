@@ -6,6 +6,7 @@ use crate::bytes::numbers;
 use crate::bytes::refusal;
 use crate::progress;
 use crate::progress::Progress;
+use member_records::var::VarAnswer;
 use records::answer::BoolAnswer;
 use records::answer::I16Answer;
 use records::answer::I32Answer;
@@ -19,7 +20,6 @@ use records::arraydesc::BoundAnswer;
 use records::guidentry::GuidAnswer;
 use records::typeinfo::KindAnswer;
 use records::types::TypeKind;
-use records::var::VarAnswer;
 
 // Longer than any text that a method writes.
 pub const TEXT_ROOM: usize = 64;

@@ -15,9 +15,9 @@ use cursors::iterators::ParamsAnswer;
 use cursors::iterators::VarsAnswer;
 use impltypes::ImplTypesAnswer;
 use impltypes::WalkAnswer;
+use member_records::func::FuncRecord;
 use records::answer::PlaceAnswer;
 use records::answer::UsizeAnswer;
-use records::func::FuncRecord;
 use records::typeinfo::TypeInfoEntry;
 use typelib::TypeLib;
 

@@ -15,6 +15,9 @@ use crate::compare::same_usize;
 use crate::compare::same_var;
 use crate::entry::Item;
 use crate::progress::Progress;
+use member_records::func::FuncRecord;
+use member_records::param::ParameterInfo;
+use member_records::var::VarRecord;
 use records::answer::I32Answer;
 use records::answer::Place;
 use records::answer::PlaceAnswer;
@@ -22,18 +25,15 @@ use records::answer::U8Answer;
 use records::answer::U16Answer;
 use records::answer::UsizeAnswer;
 use records::arraydesc::ArrayDesc;
-use records::func::FuncRecord;
 use records::guid::Guid;
 use records::guidentry::GuidEntry;
 use records::impfile::ImpFile;
 use records::impinfo::ImpInfo;
 use records::name::NameEntry;
-use records::param::ParameterInfo;
 use records::refrecord::RefRecord;
 use records::typeinfo::KindAnswer;
 use records::typeinfo::TypeInfoEntry;
 use records::types::TypeKind;
-use records::var::VarRecord;
 use texts::types;
 
 // How many kinds there are. They are numbered from 0.

@@ -1,6 +1,6 @@
 -- Records and cursors by the numbers that C hands in. Assumes nothing.
 use Prim.Native.Nat.{ℕ}
-use Rattle.records.specs.declared.func.FuncRecord.{FuncRecord}
+use Rattle.member_records.specs.declared.func.FuncRecord.{FuncRecord}
 use Rattle.records.specs.declared.typeinfo.TypeInfoEntry.{TypeInfoEntry}
 use Rattle.impltypes.specs.declared.ImplTypeCursor.{ImplTypeCursor}
 use Rattle.cursors.specs.declared.iterators.FuncCursor.{FuncCursor}

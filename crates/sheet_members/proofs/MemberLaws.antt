@@ -13,7 +13,7 @@ use Rattle.util.specs.Read.{read, orZero}
 use Rattle.records.specs.declared.answer.Place.{Place}
 use Rattle.records.specs.declared.answer.I32Answer.{I32Answer}
 use Rattle.records.specs.declared.answer.I32Answer.the-variants as i32
-use Rattle.records.specs.declared.func.FuncRecord.{FuncRecord}
+use Rattle.member_records.specs.declared.func.FuncRecord.{FuncRecord}
 use Rattle.records.specs.declared.typeinfo.TypeInfoEntry.{TypeInfoEntry}
 use Rattle.records.specs.Answer.{Answer, value, refused, map, bind}
 use Rattle.records.specs.Attributes.{defaultValueOffset}

@@ -8,7 +8,7 @@ use lib.ListN.{length}
 use borrow.Author.Tests.{ltb-false}
 use Rattle.util.specs.Read.{cond-elim}
 use Rattle.records.specs.declared.answer.Place.{Place}
-use Rattle.records.specs.declared.func.FuncRecord.{FuncRecord}
+use Rattle.member_records.specs.declared.func.FuncRecord.{FuncRecord}
 use Rattle.records.specs.Answer.{Answer, value, map}
 use Rattle.records.specs.Attributes.{argumentCount}
 use Rattle.records.specs.Record.{held}

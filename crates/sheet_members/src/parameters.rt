@@ -2,8 +2,8 @@
 use cursors::iterators;
 use cursors::iterators::ParamCursor;
 use cursors::iterators::ParamsAnswer;
+use member_records::func::FuncRecord;
 use records::answer::I32Answer;
-use records::func::FuncRecord;
 use sheet_trees::names::Names;
 use sheet_trees::trees;
 use sheet_trees::values;

@@ -10,7 +10,7 @@ use borrow.Author.Tests.{le-leb, lt-leb, le-ltb, lt-ltb}
 use Rattle.util.specs.Read.{le, cond-elim}
 use Rattle.records.specs.declared.answer.Place.{Place}
 use Rattle.records.specs.Answer.{Answer, value, refused, map, bind}
-use Rattle.util.specs.Utf8.{utf8}
+use Rattle.utf8.specs.Utf8.{utf8}
 use Rattle.records.specs.Counted.{impFileSize, textOf, textAt}
 use Rattle.records.specs.Record.{limit, recordPlace, partOf}
 use Rattle.typelib.specs.declared.TypeLib.{TypeLib}

@@ -2,5 +2,3 @@
 pub mod Read
 pub mod Real
 pub mod Told
-pub mod Utf8
-pub mod Utf8Laws

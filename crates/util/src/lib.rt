@@ -1,4 +1,4 @@
-// Little-endian reads from a slice of bytes: util.rs of the source, and the text check of `utf8`.
+// Little-endian reads from a slice of bytes: util.rs of the source.
 //
 // A read that would pass the end of the slice replies Nothing. The contracts cite `specs/Read.antt`
 // (one definition over the width) and `specs/Real.antt` (floats by their bits).
@@ -12,8 +12,6 @@ ghost use mir.Val.{toZ, ofZ};
 ghost use Rattle.util.specs.Read.{le, read, mapped, orZero};
 ghost use Rattle.util.specs.Real.{realOf};
 ghost use Rattle.util.specs.Told.{toldU16, toldU32, toldU64, toldI16, toldI32, toldI64, toldF32, toldF64};
-
-pub mod utf8;
 
 // From this number on, a 32-bit pattern is that of a negative number.
 pub const NEGATIVE: u32 = 0x8000_0000;

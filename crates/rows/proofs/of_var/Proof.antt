@@ -1,5 +1,5 @@
 use Rattle.rows.specs.Values.{place}
-use Rattle.records.specs.Told.{toldVar}
+use Rattle.member_records.specs.Told.{toldVar}
 use Rattle.records.specs.Answer.{map}
 use Rattle.rows.specs.ValueLaws.{shown}
 use borrow.Author.Needs.{needs}

@@ -1,7 +1,7 @@
 use Rattle.records.specs.Told.{toldPlace}
 use Rattle.records.specs.AnswerLaws.{tells, bind-value, bind-refused, when-true, when-false}
 use Rattle.records.specs.Counted.{textOf}
-use Rattle.util.specs.Utf8.{utf8}
+use Rattle.utf8.specs.Utf8.{utf8}
 use mathlib.Core.Path.{refl, sym, _∙_, ap}
 use borrow.Author.Needs.{needs}
 use Rattle.records.proofs.answer.text.Statement.{statement}

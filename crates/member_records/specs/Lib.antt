@@ -1,0 +1,2 @@
+-- What a reply tells.
+pub mod Told
