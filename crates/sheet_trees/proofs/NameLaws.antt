@@ -5,10 +5,10 @@ use mathlib.Core.List.{List}
 use Prim.Native.Nat.{ℕ, _+_, _≤_, _<_}
 use native.Mathlib.Omega.{arith}
 use lib.ListN.{length}
-use borrow.Author.Tests.{le-leb}
+use borrow.Author.Tests.{le-leb, lt-ltb, le-ltb}
 use Rattle.util.specs.Read.{read, orZero, read-zero}
 use Rattle.records.specs.declared.answer.Place.{Place}
-use Rattle.records.specs.Answer.{value}
+use Rattle.records.specs.Answer.{Answer, value}
 use Rattle.records.specs.AnswerLaws.{map-value, bind-value}
 use Rattle.records.specs.Record.{limit}
 use Rattle.typelib.specs.declared.TypeLib.{TypeLib}
@@ -16,7 +16,7 @@ use Rattle.typelib.specs.Names.{nameBehind, nameBytes}
 use Rattle.typelib.specs.Tables.{segmentOf}
 use Rattle.typelib.specs.TableLaws.{lent-fits, table-file, place-there, found}
 use Rattle.sheet_trees.specs.declared.names.Names.{Names}
-use Rattle.sheet_trees.specs.Names.{Near}
+use Rattle.sheet_trees.specs.Names.{Near, nameIn}
 
 module _ (s : List ℕ) (lib : TypeLib) where
   pub near-none : (at : ℕ) → Near s lib (record { at = at; near = 0 })
@@ -39,3 +39,12 @@ module _ (s : List ℕ) (lib : TypeLib) where
       bind-value _ _ _ _ intro
       (map-value _ _ _ _ (near offset (12 + len) h (omega (arith, short))) refl
       ∙ ap (nameBehind s lib offset) (read-zero 1 s (t .at + offset + 8) len (omega (arith, inside .inside)) e))
+
+  pub near-in : (t : Names) (offset len : ℕ) → offset < t .near → len ≡ orZero (read 1 s (t .at + offset + 8))
+      → value (record { at = t .at + offset + 12; len = len }) ≡ nameIn s lib t offset
+  unfolding nameIn
+  near-in t offset len h e = rw (e, lt-ltb offset (t .near) h)
+
+  pub far-in : (t : Names) (offset : ℕ) {a : Answer Place} → t .near ≤ offset → a ≡ nameBytes s lib offset → a ≡ nameIn s lib t offset
+  unfolding nameIn
+  far-in t offset {a} h e = rw (e, le-ltb offset (t .near) h)

@@ -43,6 +43,8 @@ use Rattle.describe.specs.References.{guidOf, fileOf, ownOf, importOf, referenc
 use Rattle.describe.specs.Members.{nameOf, nameBy, memidBy}
 use Rattle.emit.specs.Emit.{countedPart, _▸_}
 use Rattle.emit.specs.Laws.{byte-first}
+use Rattle.sheet_trees.specs.declared.names.Names.{Names}
+use Rattle.sheet_trees.specs.Names.{nameIn, nameInBy}
 use Rattle.sheet_trees.specs.Parts.{optPart, referenceBytes, internalBytes, indexBytes, hereBytes, ownBytes, fileBytes, importBytes}
 
 -- ---- parts that may be missing
@@ -75,6 +77,9 @@ module _ (s : List ℕ) where
   unfolding optPart
   part-none w {a} {n} e = rw e
 
+  pub part-is : (w : ℕ) {a b : Answer Place} → a ≡ b → value (optPart w (found (bytesIn s a))) ≡ value (optPart w (found (bytesIn s b)))
+  part-is w e = ap (λ (a : Answer Place). value (optPart w (found (bytesIn s a)))) e
+
   module _ (lib : TypeLib) where
     pub guid-is : (offset : ℕ) (a : Answer Place) → a ≡ guidPlace s lib offset
         → value (optPart 0 (found (bytesIn s a))) ≡ value (encode (opt guid) (guidOf s lib offset))
@@ -85,6 +90,17 @@ module _ (s : List ℕ) where
         → value (optPart 1 (found (bytesIn s a))) ≡ value (encode (opt name) (nameOf s lib offset))
     unfolding nameOf
     name-is offset a e = rw e (ap value (part-name (found (bytesIn s (nameBytes s lib offset)))))
+
+    -- by names that were looked up
+    module _ (t : Names) {x : I32Answer} where
+      pub in-by : {z : ℤ} {n : ℕ} → x ≡ i32.Value z → n ≡ ofZ w32 z
+          → value (optPart 1 (found (bytesIn s (nameIn s lib t n)))) ≡ value (optPart 1 (nameInBy s lib t (toldI32 x)))
+      unfolding nameInBy
+      in-by {z} {n} e f = rw (e, f)
+
+      pub in-missing : {n : ℕ} → x ≡ i32.Refused n → value (0 ∷ []) ≡ value (optPart 1 (nameInBy s lib t (toldI32 x)))
+      unfolding nameInBy optPart
+      in-missing {n} e = rw e
 
     pub name-by : {x : I32Answer} {z : ℤ} {n : ℕ} → x ≡ i32.Value z → n ≡ ofZ w32 z
         → value (encode (opt name) (nameOf s lib n)) ≡ value (encode (opt name) (nameBy s lib (toldI32 x)))

@@ -6,7 +6,7 @@ use typelib::TypeLib;
 ghost use mathlib.Core.Path.{_≡_};
 ghost use Rattle.records.specs.Told.{toldPlace};
 ghost use Rattle.typelib.specs.Names.{nameBytes};
-ghost use Rattle.sheet_trees.specs.Names.{Near};
+ghost use Rattle.sheet_trees.specs.Names.{Near, nameIn};
 
 const NAME_TABLE: usize = 7;
 
@@ -39,8 +39,9 @@ pub fn names_of(s: &[u8], lib: TypeLib) -> Names
     Names { at: 0, near: 0 }
 }
 
-// The name at an offset, if `names` are this library's: nothing else is asked of one that is near.
+// The name at an offset: the library's, if `names` are its own. Nothing else is asked of one that is near.
 pub fn name_at(s: &[u8], lib: TypeLib, names: Names, offset: u32) -> PlaceAnswer
+    ensures { λ r. ⌜ toldPlace r ≡ nameIn (now (s .entry)) lib names offset ⌝ }
     ensures { λ r. ⌜ (Near (now (s .entry)) lib names → toldPlace r ≡ nameBytes (now (s .entry)) lib offset) ⌝ }
 {
     if offset < names.near {

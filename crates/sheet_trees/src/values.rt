@@ -15,7 +15,7 @@ ghost use Rattle.describe.specs.Values.{found, bytesIn};
 ghost use Rattle.describe.specs.References.{guidOf};
 ghost use Rattle.describe.specs.Members.{nameOf, nameBy, memidBy};
 ghost use Rattle.emit.specs.Emit.{Emitted, countedPart, put};
-ghost use Rattle.sheet_trees.specs.Names.{Near};
+ghost use Rattle.sheet_trees.specs.Names.{Near, nameIn, nameInBy};
 ghost use Rattle.sheet_trees.specs.Parts.{optPart};
 
 // The bytes at a place of the library, behind their count in one byte.
@@ -67,7 +67,7 @@ pub fn put_opt_name(s: &[u8], lib: TypeLib, offset: u32, out: &mut [u8], to: usi
     put_opt_counted(&*s, lib.name_at(&*s, offset), out, to)
 }
 
-// The same by names that were looked up, if they are this library's.
+// The same by names that were looked up: the library's name, if they are its own.
 pub fn put_name_in(
     s: &[u8],
     lib: TypeLib,
@@ -76,6 +76,7 @@ pub fn put_name_in(
     out: &mut [u8],
     to: usize,
 ) -> usize
+    ensures { λ r. ⌜ Emitted (value (optPart 1 (found (bytesIn (now (s .entry)) (nameIn (now (s .entry)) lib names offset))))) (put to) (now (out .entry)) (put r) (now (out .exit)) ⌝ }
     ensures { λ r. ⌜ (Near (now (s .entry)) lib names → Emitted (value (encode (opt name) (nameOf (now (s .entry)) lib offset))) (put to) (now (out .entry)) (put r) (now (out .exit))) ⌝ }
 {
     match names::name_at(&*s, lib, names, offset) {
@@ -93,6 +94,7 @@ pub fn put_name_by(
     out: &mut [u8],
     to: usize,
 ) -> usize
+    ensures { λ r. ⌜ Emitted (value (optPart 1 (nameInBy (now (s .entry)) lib names (toldI32 offset)))) (put to) (now (out .entry)) (put r) (now (out .exit)) ⌝ }
     ensures { λ r. ⌜ (Near (now (s .entry)) lib names → Emitted (value (encode (opt name) (nameBy (now (s .entry)) lib (toldI32 offset)))) (put to) (now (out .entry)) (put r) (now (out .exit))) ⌝ }
 {
     let I32Answer::Value(x) = offset else {

@@ -39,13 +39,13 @@ same-length : tie.Need-same-length
 same-length c = search needs
 
 returns : tie.Need-returns
-returns c = known (parameter-is _ _ _ _ _ (c .before .before .before .before .before .before .before .before .before .before .before .before .before .before .before .before .before .before .before .word-at2 .ensures) (c .before .before .before .before .before .before .before .before .before .before .before .before .before .before .word-at3 .ensures) (c .before .before .before .before .before .before .before .before .before .before .before .before .before .before .before .before .before .before .before .before .word-at .ensures)) (join (c .before .before .before .before .before .before .before .before .before .before .before .before .before .before .before .before .before .put-tree .ensures) (join (c .before .before .before .before .before .before .before .before .before .before .before .before .put-name-in .ensures (c .before .before .before .before .before .before .before .before .before .before .before .before .before .before .before .before .before .before .before .before .before .before .before .pre)) (known (default-set _ _ _ (c .before .before .before .before .default-value-offset .ensures) (c .before .before .before .before .before .before .before .before .before .if1 .taken)) (join (c .before .before .before .before .before .before .before .put-u32 .ensures) (c .before .before .put-constant-by .ensures)))))
+returns c = known (parameter-is _ _ _ _ _ (c .before .before .before .before .before .before .before .before .before .before .before .before .before .before .before .before .before .before .before .word-at2 .ensures) (c .before .before .before .before .before .before .before .before .before .before .before .before .before .before .word-at3 .ensures) (c .before .before .before .before .before .before .before .before .before .before .before .before .before .before .before .before .before .before .before .before .word-at .ensures)) (join (c .before .before .before .before .before .before .before .before .before .before .before .before .before .before .before .before .before .put-tree .ensures) (join (c .before .before .before .before .before .before .before .before .before .before .before .before .put-name-in .ensures .1 (c .before .before .before .before .before .before .before .before .before .before .before .before .before .before .before .before .before .before .before .before .before .before .before .pre)) (known (default-set _ _ _ (c .before .before .before .before .default-value-offset .ensures) (c .before .before .before .before .before .before .before .before .before .if1 .taken)) (join (c .before .before .before .before .before .before .before .put-u32 .ensures) (c .before .before .put-constant-by .ensures)))))
 
 same-length-2 : tie.Need-same-length-2
 same-length-2 c = search needs
 
 returns-2 : tie.Need-returns-2
-returns-2 c = known (parameter-is _ _ _ _ _ (c .before .before .before .before .before .before .before .before .before .before .before .before .before .before .word-at2 .ensures) (c .before .before .before .before .before .before .before .before .before .word-at3 .ensures) (c .before .before .before .before .before .before .before .before .before .before .before .before .before .before .before .word-at .ensures)) (join (c .before .before .before .before .before .before .before .before .before .before .before .before .put-tree .ensures) (join (c .before .before .before .before .before .before .before .put-name-in .ensures (c .before .before .before .before .before .before .before .before .before .before .before .before .before .before .before .before .before .before .pre)) (known (default-unset _ _ _ _ (omega arith) (c .before .before .before .before .if1 .left)) (c .before .before .put-le .ensures))))
+returns-2 c = known (parameter-is _ _ _ _ _ (c .before .before .before .before .before .before .before .before .before .before .before .before .before .before .word-at2 .ensures) (c .before .before .before .before .before .before .before .before .before .word-at3 .ensures) (c .before .before .before .before .before .before .before .before .before .before .before .before .before .before .before .word-at .ensures)) (join (c .before .before .before .before .before .before .before .before .before .before .before .before .put-tree .ensures) (join (c .before .before .before .before .before .before .before .put-name-in .ensures .1 (c .before .before .before .before .before .before .before .before .before .before .before .before .before .before .before .before .before .before .pre)) (known (default-unset _ _ _ _ (omega arith) (c .before .before .before .before .if1 .left)) (c .before .before .put-le .ensures))))
 
 pub put-parameter-spec : {M : Type 1} → statement M
 put-parameter-spec =

@@ -1,5 +1,5 @@
 use native.Mathlib.Omega.{arith}
-use Rattle.sheet_trees.proofs.NameLaws.{near-name}
+use Rattle.sheet_trees.proofs.NameLaws.{near-in, far-in, near-name}
 use borrow.Author.Needs.{needs}
 use Rattle.sheet_trees.proofs.names.name_at.Statement.{statement}
 use Rattle.sheet_trees.proofs.names.name_at.Tie as tie
@@ -23,13 +23,13 @@ add-t9 : tie.Need-add-t9
 add-t9 c = search needs
 
 returns : tie.Need-returns
-returns c = λ near. near-name _ _ _ _ _ near (c .before .before .if1 .taken) (omega arith) (c .u8-or-zero .ensures)
+returns c = (near-in _ _ _ _ _ (c .before .before .if1 .taken) (c .u8-or-zero .ensures), λ near. near-name _ _ _ _ _ near (c .before .before .if1 .taken) (omega arith) (c .u8-or-zero .ensures))
 
 name-at-requires : tie.Need-name-at-requires
 name-at-requires c κs = search needs
 
 returns-2 : tie.Need-returns-2
-returns-2 c = search needs
+returns-2 c = (far-in _ _ _ _ (c .before .if1 .left) (c .name-at .ensures), λ _. c .name-at .ensures)
 
 pub name-at-spec : {M : Type 1} → statement M
 name-at-spec =

@@ -1,6 +1,6 @@
 use mathlib.Core.Path.{_∙_}
 use Rattle.emit.specs.Laws.{known}
-use Rattle.sheet_trees.proofs.PartLaws.{counted-some, part-none, name-is}
+use Rattle.sheet_trees.proofs.PartLaws.{counted-some, part-none, part-is, name-is}
 use borrow.Author.Needs.{needs}
 use Rattle.sheet_trees.proofs.values.put_name_in.Statement.{statement}
 use Rattle.sheet_trees.proofs.values.put_name_in.Tie as tie
@@ -24,13 +24,13 @@ same-length : tie.Need-same-length
 same-length c = search needs
 
 returns : tie.Need-returns
-returns c = λ near. known (counted-some _ (c .before .before .before .before .before .p .given .1) ∙ name-is _ _ _ _ (c .before .before .before .before .before .before .before .name-at .ensures near)) (c .before .before .put-counted .ensures)
+returns c = (known (counted-some _ (c .before .before .before .before .before .p .given .1) ∙ part-is _ 1 (c .before .before .before .before .before .before .before .name-at .ensures .0)) (c .before .before .put-counted .ensures), λ near. known (counted-some _ (c .before .before .before .before .before .p .given .1) ∙ name-is _ _ _ _ (c .before .before .before .before .before .before .before .name-at .ensures .1 near)) (c .before .before .put-counted .ensures))
 
 same-length-2 : tie.Need-same-length-2
 same-length-2 c = search needs
 
 returns-2 : tie.Need-returns-2
-returns-2 c = λ near. known (part-none _ _ (c .before .before .before .before .enum-told .given .1) ∙ name-is _ _ _ _ (c .before .before .before .before .before .before .name-at .ensures near)) (c .before .before .put-u8 .ensures)
+returns-2 c = (known (part-none _ _ (c .before .before .before .before .enum-told .given .1) ∙ part-is _ 1 (c .before .before .before .before .before .before .name-at .ensures .0)) (c .before .before .put-u8 .ensures), λ near. known (part-none _ _ (c .before .before .before .before .enum-told .given .1) ∙ name-is _ _ _ _ (c .before .before .before .before .before .before .name-at .ensures .1 near)) (c .before .before .put-u8 .ensures))
 
 pub put-name-in-spec : {M : Type 1} → statement M
 put-name-in-spec =
