@@ -195,6 +195,10 @@ module _ (s : List ℕ) (lib : TypeLib) where
     unfolding functionsOf funcRecords
     functions-some {c} {n} g h = let q : funcsOf s ti ≡ value c = sym e ∙ g in rw q (members-laid G (functionOf s lib ti) (yields (funcStep s) (c .remaining) c) h)
 
+    pub functions-empty : {c : FuncCursor} → a ≡ value c → c .remaining ≡ 0 → value (leBytes 2 0) ≡ map (encode (list u16 G)) (all (functionsOf s lib ti))
+    unfolding functionsOf funcRecords yields
+    functions-empty {c} g h = let q : funcsOf s ti ≡ value c = sym e ∙ g in rw (q, h) (members-none G (functionOf s lib ti))
+
     pub functions-none : {n : ℕ} → a ≡ refused n → value (leBytes 2 0) ≡ map (encode (list u16 G)) (all (functionsOf s lib ti))
     unfolding functionsOf funcRecords
     functions-none {n} g = let q : funcsOf s ti ≡ refused n = sym e ∙ g in rw q (members-none G (functionOf s lib ti))

@@ -39,6 +39,10 @@ pub fn put_functions(s: &[u8], lib: TypeLib, ti: TypeInfoEntry, out: &mut [u8], 
         FuncsAnswer::Value(cursor) => {
             // the count is known once they are emitted
             let t = emit::put_u16(out, to, 0);
+            // (where there are none, nothing need be looked up for them)
+            if cursor.remaining == 0 {
+                return t;
+            }
             let listed = put_each(&*s, lib, ti, cursor, out, t);
             emit::overwrite(out, to, listed.count as u64, 2);
             listed.to

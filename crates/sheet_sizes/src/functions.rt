@@ -32,7 +32,14 @@ pub(crate) fn after_functions(s: &[u8], lib: TypeLib, ti: TypeInfoEntry, to: usi
     ensures { λ r. ⌜ Measured (map (encode (list u16 (function edition-one (lib .count)))) (all (functionsOf (now (s .entry)) lib ti))) to r ⌝ }
 {
     match iterators::funcs(&*s, ti) {
-        FuncsAnswer::Value(cursor) => after_each(&*s, lib, ti, cursor, crate::ahead(to, 2)),
+        FuncsAnswer::Value(cursor) => {
+            let t = crate::ahead(to, 2);
+            // (where there are none, nothing need be looked up for them)
+            if cursor.remaining == 0 {
+                return t;
+            }
+            after_each(&*s, lib, ti, cursor, t)
+        }
         FuncsAnswer::Refused(_) => crate::ahead(to, 2),
     }
 }

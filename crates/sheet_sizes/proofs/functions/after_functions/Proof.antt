@@ -1,8 +1,8 @@
-use Rattle.sheet_members.proofs.MemberLaws.{functions-some, functions-none}
-use Rattle.emit.specs.Laws.{known, join}
-use Rattle.description.specs.Format.{leBytes, length-leBytes}
-use Rattle.cursors.specs.Told.{toldFuncs}
 use mathlib.Core.Path.{ap, refl}
+use Rattle.cursors.specs.Told.{toldFuncs}
+use Rattle.description.specs.Format.{leBytes, length-leBytes}
+use Rattle.emit.specs.Laws.{known, join}
+use Rattle.sheet_members.proofs.MemberLaws.{functions-some, functions-empty, functions-none}
 use borrow.Author.Needs.{needs}
 use Rattle.sheet_sizes.proofs.functions.after_functions.Statement.{statement}
 use Rattle.sheet_sizes.proofs.functions.after_functions.Tie as tie
@@ -16,6 +16,9 @@ enum-known-cursor c = search needs
 ahead-requires : tie.Need-ahead-requires
 ahead-requires c κs = search needs
 
+returns : tie.Need-returns
+returns c = known (functions-empty _ _ _ _ (c .before .before .before .before .before .before .funcs .ensures) (ap toldFuncs (c .before .before .before .before .cursor .given .1)) (c .if1 .taken)) (c .before .before .ahead .ensures _ (length-leBytes 2 _))
+
 after-each-requires : tie.Need-after-each-requires
 after-each-requires c κs = search needs
 
@@ -25,11 +28,11 @@ enum-told c = search needs
 ahead-requires-2 : tie.Need-ahead-requires-2
 ahead-requires-2 c κs = search needs
 
-returns : tie.Need-returns
-returns c = known (functions-some _ _ _ _ (c .before .before .before .before .before .funcs .ensures) (ap toldFuncs (c .before .before .before .cursor .given .1)) refl) (join (c .before .ahead .ensures (leBytes 2 _) (length-leBytes 2 _)) (c .after-each .ensures))
-
 returns-2 : tie.Need-returns-2
-returns-2 c = known (functions-none _ _ _ _ (c .before .before .before .funcs .ensures) (ap toldFuncs (c .before .enum-told .given .1))) (c .ahead2 .ensures _ (length-leBytes 2 _))
+returns-2 c = known (functions-some _ _ _ _ (c .before .before .before .before .before .before .before .funcs .ensures) (ap toldFuncs (c .before .before .before .before .before .cursor .given .1)) refl) (join (c .before .before .before .ahead .ensures (leBytes 2 _) (length-leBytes 2 _)) (c .after-each .ensures))
+
+returns-3 : tie.Need-returns-3
+returns-3 c = known (functions-none _ _ _ _ (c .before .before .before .funcs .ensures) (ap toldFuncs (c .before .enum-told .given .1))) (c .ahead2 .ensures _ (length-leBytes 2 _))
 
 pub after-functions-spec : {M : Type 1} → statement M
 after-functions-spec =
@@ -38,8 +41,9 @@ after-functions-spec =
     funcs-requires
     enum-known-cursor
     ahead-requires
+    returns
     after-each-requires
     enum-told
     ahead-requires-2
-    returns
-    returns-2)
+    returns-2
+    returns-3)
