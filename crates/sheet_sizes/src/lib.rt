@@ -12,6 +12,7 @@ ghost use Rattle.sheet_members.specs.Lists.{layAll};
 ghost use Rattle.sheet_bases.specs.Types.{namesBytes};
 ghost use Rattle.sheet_sizes.specs.Measured.{Measured, Counted};
 
+mod bases;
 mod functions;
 mod names;
 mod parameters;
@@ -45,7 +46,7 @@ fn after_type_of(s: &[u8], lib: TypeLib, index: usize, to: usize) -> usize
     }
 }
 
-// A type. (What it is based on is measured by its emitter, over an output with no room.)
+// A type.
 fn after_type(s: &[u8], lib: TypeLib, ti: TypeInfoEntry, to: usize) -> usize
     ensures { λ r. ⌜ Measured (map (encode (typeInfo edition-one (lib .count))) (typeAt (now (s .entry)) lib ti)) to r ⌝ }
 {
@@ -53,8 +54,7 @@ fn after_type(s: &[u8], lib: TypeLib, ti: TypeInfoEntry, to: usize) -> usize
     // the kind, the flags and the version
     let t = ahead(to, 9);
     let t = after_names(&*s, lib, ti.at, t);
-    let mut none = [0u8; 0];
-    let t = sheet_bases::put_base(&*s, lib, ti, kind, &mut none, t);
+    let t = bases::after_base(&*s, lib, ti, kind, t);
     let t = functions::after_functions(&*s, lib, ti, t);
     variables::after_variables(&*s, lib, ti, t)
 }
