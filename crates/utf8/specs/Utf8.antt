@@ -1,8 +1,9 @@
--- UTF-8: the grammar of RFC 3629, section 4, and a test of it that goes byte by byte. `Utf8Laws` shows that they agree.
--- Assumes nothing.
+-- UTF-8: the grammar of RFC 3629, section 4, a test of it that goes byte by byte, and how many bytes a character has by that test.
+-- `Utf8Laws` shows that they agree. Assumes nothing.
 use mathlib.Core.Bool.{Bool, false, cond}
 use mathlib.Core.List.{List, [], _∷_}
-use Prim.Native.Nat.{ℕ, _≤_}
+use Prim.Native.Nat.{ℕ, suc, _≤_, _<_}
+use lib.ListN.{length, getD}
 use lib.Dec.{leb, ltb, eqb}
 
 -- ---- the grammar
@@ -70,3 +71,22 @@ accepts state (b ∷ bs) = cond (eqb (afterByte state b) 8) false (accepts (afte
 -- whether a list of bytes is text in UTF-8
 abbrev pub utf8 : List ℕ → Bool
 utf8 s = accepts 0 s
+
+-- ---- one character
+
+-- a byte from lo to hi stands in s at `at`
+pub record ByteAt (s : List ℕ) (at lo hi : ℕ) : Type 0 where
+  pub within : at < length s
+  pub byte : In lo hi (getD s at 0)
+
+-- How many bytes a character has of which n are read, so that what `state` says may follow, and whose others begin s: 0 if s does
+-- not go on so.
+unfoldable pub characterEnd : ℕ → ℕ → List ℕ → ℕ
+characterEnd state n [] = 0
+characterEnd state n (b ∷ bs) =
+    cond (eqb (afterByte state b) 8) 0
+    (cond (eqb (afterByte state b) 0) (suc n) (characterEnd (afterByte state b) (suc n) bs))
+
+-- how many bytes the character has that s begins with: 0 if s begins with none
+abbrev pub characterBytes : List ℕ → ℕ
+characterBytes s = characterEnd 0 0 s

@@ -2,108 +2,109 @@
 ghost use mathlib.Core.Path.{_≡_};
 ghost use mathlib.Core.Bool.{true};
 ghost use mathlib.Core.Logic.{_↔_};
-ghost use Rattle.utf8.specs.Utf8.{afterFirst, afterTail, afterByte, utf8, Text};
+ghost use lib.ListN.{getD, drop};
+ghost use Rattle.utf8.specs.Utf8.{ByteAt, characterBytes, utf8, Text};
 
-// What may follow the bytes read so far.
-const CHARACTER: u8 = 0;
-
-const TAIL_1: u8 = 1;
-
-const TAIL_2: u8 = 2;
-
-const TAIL_3: u8 = 3;
-
-const AFTER_E0: u8 = 4;
-
-const AFTER_ED: u8 = 5;
-
-const AFTER_F0: u8 = 6;
-
-const AFTER_F4: u8 = 7;
-
-const NO_TEXT: u8 = 8;
-
-// After the first byte of a character.
-fn after_first(b: u8) -> u8
-    ensures { λ r. ⌜ r ≡ afterFirst b ⌝ }
+// Whether a byte from `lo` to `hi` stands at `at`.
+fn tail(s: &[u8], at: usize, lo: u8, hi: u8) -> bool
+    ensures { λ r. ⌜ r ≡ true ↔ ByteAt (now (s .entry)) at lo hi ⌝ }
 {
-    if b < 0x80 {
-        return CHARACTER;
-    }
-    if b < 0xc2 {
-        return NO_TEXT;
-    }
-    if b < 0xe0 {
-        return TAIL_1;
-    }
-    if b == 0xe0 {
-        return AFTER_E0;
-    }
-    if b == 0xed {
-        return AFTER_ED;
-    }
-    if b < 0xf0 {
-        return TAIL_2;
-    }
-    if b == 0xf0 {
-        return AFTER_F0;
-    }
-    if b < 0xf4 {
-        return TAIL_3;
-    }
-    if b == 0xf4 {
-        return AFTER_F4;
-    }
-    NO_TEXT
-}
-
-// After a byte that has to lie from `lo` to `hi`.
-fn after_tail(b: u8, lo: u8, hi: u8, then: u8) -> u8
-    ensures { λ r. ⌜ r ≡ afterTail b lo hi then ⌝ }
-{
-    if lo <= b {
-        if b <= hi {
-            return then;
+    if at < s.len() {
+        let b = s[at];
+        if lo <= b {
+            return b <= hi;
         }
     }
-    NO_TEXT
+    false
 }
 
-fn after_byte(state: u8, b: u8) -> u8
-    ensures { λ r. ⌜ r ≡ afterByte state b ⌝ }
+// How many bytes the character at `at` has, whose first byte announces two: 0 if its tail is missing.
+fn character_of_2(s: &[u8], at: usize) -> usize
+    requires { ⌜ ByteAt (now s) at 0xc2 0xdf ⌝ }
+    ensures { λ r. ⌜ r ≡ characterBytes (drop at (now (s .entry))) ⌝ }
 {
-    match state {
-        0 => after_first(b),
-        1 => after_tail(b, 0x80, 0xbf, CHARACTER),
-        2 => after_tail(b, 0x80, 0xbf, TAIL_1),
-        3 => after_tail(b, 0x80, 0xbf, TAIL_2),
-        4 => after_tail(b, 0xa0, 0xbf, TAIL_1),
-        5 => after_tail(b, 0x80, 0x9f, TAIL_1),
-        6 => after_tail(b, 0x90, 0xbf, TAIL_2),
-        7 => after_tail(b, 0x80, 0x8f, TAIL_2),
-        _ => NO_TEXT,
+    if tail(&*s, at + 1, 0x80, 0xbf) {
+        return 2;
     }
+    0
 }
 
-// Whether `s` is text in UTF-8. (Most text is ASCII, which is text where a character may begin and nowhere else: such a byte
-// needs no more than that.)
+// The same where the first byte, `b`, announces three. The bounds of the second leave out what fits in two bytes (after E0) and the
+// surrogates (after ED).
+fn character_of_3(s: &[u8], at: usize, b: u8) -> usize
+    requires { ⌜ ByteAt (now s) at 0xe0 0xef ⌝ }
+    requires { ⌜ b ≡ getD (now s) at 0 ⌝ }
+    ensures { λ r. ⌜ r ≡ characterBytes (drop at (now (s .entry))) ⌝ }
+{
+    let lo: u8 = if b == 0xe0 { 0xa0 } else { 0x80 };
+    let hi: u8 = if b == 0xed { 0x9f } else { 0xbf };
+    if tail(&*s, at + 1, lo, hi) {
+        if tail(&*s, at + 2, 0x80, 0xbf) {
+            return 3;
+        }
+    }
+    0
+}
+
+// The same where the first byte, `b`, announces four. The bounds of the second leave out what fits in three bytes (after F0) and
+// what lies above the last character, 10FFFF (after F4).
+fn character_of_4(s: &[u8], at: usize, b: u8) -> usize
+    requires { ⌜ ByteAt (now s) at 0xf0 0xf4 ⌝ }
+    requires { ⌜ b ≡ getD (now s) at 0 ⌝ }
+    ensures { λ r. ⌜ r ≡ characterBytes (drop at (now (s .entry))) ⌝ }
+{
+    let lo: u8 = if b == 0xf0 { 0x90 } else { 0x80 };
+    let hi: u8 = if b == 0xf4 { 0x8f } else { 0xbf };
+    if tail(&*s, at + 1, lo, hi) {
+        if tail(&*s, at + 2, 0x80, 0xbf) {
+            if tail(&*s, at + 3, 0x80, 0xbf) {
+                return 4;
+            }
+        }
+    }
+    0
+}
+
+// How many bytes the character at `at` has, whose first byte, `b`, is not ASCII: 0 if no character stands there. (None begins with
+// a tail, with C0 or C1, whose two bytes would fit in one, or above F4. The caller hands over the byte, so that each is read once.)
+fn character(s: &[u8], at: usize, b: u8) -> usize
+    requires { ⌜ ByteAt (now s) at 0x80 0xff ⌝ }
+    requires { ⌜ b ≡ getD (now s) at 0 ⌝ }
+    ensures { λ r. ⌜ r ≡ characterBytes (drop at (now (s .entry))) ⌝ }
+{
+    if b < 0xc2 {
+        return 0;
+    }
+    if b < 0xe0 {
+        return character_of_2(&*s, at);
+    }
+    if b < 0xf0 {
+        return character_of_3(&*s, at, b);
+    }
+    if 0xf4 < b {
+        return 0;
+    }
+    character_of_4(&*s, at, b)
+}
+
+// Whether `s` is text in UTF-8: character by character, and no byte is read behind one that no text has there. (Most text is ASCII,
+// whose bytes are a character each: such a byte needs one test.)
 pub fn is_utf8(s: &[u8]) -> bool
     ensures { λ r. ⌜ r ≡ utf8 (now (s .entry)) ⌝ }
     ensures { λ r. ⌜ r ≡ true ↔ Text (now (s .entry)) ⌝ }
 {
-    let mut state: u8 = CHARACTER;
     let mut i: usize = 0;
     while i < s.len() {
         let b = s[i];
-        i += 1;
-        if 0x80 <= b {
-            state = after_byte(state, b);
-            if state == NO_TEXT {
+        if b < 0x80 {
+            i += 1;
+        } else {
+            let n = character(&*s, i, b);
+            if n == 0 {
                 return false;
             }
-        } else if state != CHARACTER {
-            return false;
+            i += n;
         }
     }
-    state == CHARACTER
+    true
 }
