@@ -84,7 +84,13 @@ fn put_level(s: &[u8], lib: TypeLib, field: u32, out: &mut [u8], to: usize) -> L
         return put_leaf(util::bits(field, 0, 12) as u16, out, to);
     }
     match lib.type_desc_at(&*s, field) {
-        PairAnswer::Value(words) => put_descriptor(&*s, lib, words.first, words.second, out, to),
+        PairAnswer::Value(words) => {
+            // most are pointers, and need no call
+            if util::bits(words.first, 0, 12) == 26 {
+                return put_over(2, words.second, out, to);
+            }
+            put_descriptor(&*s, lib, words.first, words.second, out, to)
+        }
         PairAnswer::Refused(_) => put_nothing(out, to),
     }
 }
