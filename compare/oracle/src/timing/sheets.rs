@@ -1,6 +1,7 @@
 //! The sheet call beside the sheet made from the reference, for the same promise: a call that refuses
 //! has written nothing. So the reference lays a sheet into a vector of its own, which is kept from call to
-//! call, and copies it into the output when it is whole.
+//! call, and copies it into the output when it is whole. For the real libraries it is also timed without
+//! that copy, with the sheet left in the vector.
 
 use std::hint::black_box;
 
@@ -8,15 +9,30 @@ use super::Case;
 use crate::inputs::{Input, Inputs, large};
 use crate::sheet::{MOST_BYTES, sheet_into};
 
+/// Where the reference leaves a sheet.
+#[derive(Clone, Copy)]
+enum Left {
+    InOutput,
+    InVector,
+}
+
 /// Prints a line for each case. `is_long` adds a library that takes the reference some ten seconds.
 pub fn print(is_long: bool) {
     let corpus: Vec<Input> = Inputs::new(0).corpus().collect();
     let largest = corpus.iter().max_by_key(|input| input.bytes.len());
     let largest = largest.expect("there are libraries").bytes.clone();
     let corpus: Vec<Vec<u8>> = corpus.into_iter().map(|input| input.bytes).collect();
-    print_case("sheets of all real libraries", &corpus);
+    let without_copy = "the same, the Rust without the copy";
+    print_case("sheets of all real libraries", &corpus, Left::InOutput);
+    print_case(without_copy, &corpus, Left::InVector);
+    let largest = [largest];
+    print_case(
+        "sheet of the largest real library",
+        &largest,
+        Left::InOutput,
+    );
+    print_case(without_copy, &largest, Left::InVector);
     for (name, library) in [
-        ("sheet of the largest real library", largest),
         (
             "sheet, 64 KB, 700 million descriptions",
             large::many_descriptions(8_100, 32),
@@ -33,16 +49,17 @@ pub fn print(is_long: bool) {
             large::coclasses(1_000, 100_000, -1),
         ),
     ] {
-        print_case(name, &[library]);
+        print_case(name, &[library], Left::InOutput);
     }
     if is_long {
         let library = large::overlapping(16_000, 32);
-        print_case("sheet, 64 KB, 2,700 million descriptions", &[library]);
+        let name = "sheet, 64 KB, 2,700 million descriptions";
+        print_case(name, &[library], Left::InOutput);
     }
 }
 
 /// All of the libraries make one round.
-fn print_case(name: &'static str, libraries: &[Vec<u8>]) {
+fn print_case(name: &'static str, libraries: &[Vec<u8>], left: Left) {
     // Written to once, so that no round pays for memory that is used for the first time.
     let (mut sheet, mut out) = (vec![1; MOST_BYTES], vec![1; MOST_BYTES]);
     let case = Case {
@@ -50,7 +67,7 @@ fn print_case(name: &'static str, libraries: &[Vec<u8>]) {
         bytes: libraries.iter().map(Vec::len).sum(),
         calls: Some(libraries.len()),
         rust: Box::new(move || {
-            let lay = |library: &Vec<u8>| rust_sheet(library, &mut sheet, &mut out);
+            let lay = |library: &Vec<u8>| rust_sheet(library, &mut sheet, &mut out, left);
             libraries.iter().map(lay).sum()
         }),
         product: product(libraries),
@@ -59,10 +76,15 @@ fn print_case(name: &'static str, libraries: &[Vec<u8>]) {
 }
 
 /// The length of the sheet, or the number of the refusal.
-fn rust_sheet(library: &[u8], sheet: &mut Vec<u8>, out: &mut [u8]) -> u64 {
+fn rust_sheet(library: &[u8], sheet: &mut Vec<u8>, out: &mut [u8], left: Left) -> u64 {
     match sheet_into(black_box(library), out.len(), sheet) {
         Ok(()) => {
-            black_box(&mut *out)[..sheet.len()].copy_from_slice(sheet);
+            match left {
+                Left::InOutput => black_box(&mut *out)[..sheet.len()].copy_from_slice(sheet),
+                Left::InVector => {
+                    black_box(&mut *sheet);
+                }
+            }
             sheet.len() as u64
         }
         Err(number) => u64::from(number),
