@@ -15,7 +15,7 @@ use Rattle.describe.specs.Call.{within, written}
 use Rattle.describe.specs.Describe.{headerOf, typesOf}
 use Rattle.emit.specs.Emit.{Put}
 use Rattle.emit.specs.Emit.{At, Refused}
-use Rattle.emit.specs.Emit.{_▸_, put, moved}
+use Rattle.emit.specs.Emit.{_▸_, past, put, moved}
 
 -- the whole sheet of a library
 unfoldable pub sheetEmitted : List ℕ → TypeLib → Answer Bytes
@@ -46,6 +46,12 @@ LaidTwo (refused n) x c t o o′ = Unit {0}
 pub record Twofold (ks xs : Answer Bytes) (c : ℕ) (t : Put) (o : List ℕ) (r : Put) (o′ : List ℕ) : Type 0 where
   pub moves : r ≡ moved t xs
   pub lays : LaidTwo ks xs c t o o′
+  pub keeps : length o′ ≡ length o
+
+-- P, which an emitter that replies r has done, unless it gave up where its bytes passed the place `most`: then it replies the last place
+pub record Within (most r : ℕ) (o o′ : List ℕ) (P : Type 0) : Type 0 where
+  pub short : (r ≡ past → ⊥) → P
+  pub endless : past ≤ most → P
   pub keeps : length o′ ≡ length o
 
 -- a call that was to write x into an output that held o: its reply, and the output after it

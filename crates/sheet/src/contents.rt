@@ -11,24 +11,24 @@ ghost use Rattle.describe.specs.Describe.{headerOf};
 ghost use Rattle.describe.specs.Types.{typesFrom};
 ghost use Rattle.emit.specs.Emit.{Emitted, put, moved};
 ghost use Rattle.sheet_members.specs.Lists.{layAll};
-ghost use Rattle.sheet.specs.Contents.{lensOf, sheetEmitted, Patched, Twofold};
+ghost use Rattle.sheet.specs.Contents.{lensOf, sheetEmitted, Patched, Twofold, Within};
 
 // Where the contents have the length of the library's body, and of the first type's.
 const LIBRARY_LENGTH: usize = 4;
 
 const TYPE_LENGTHS: usize = 8;
 
-// The whole sheet.
-pub(crate) fn put_sheet(s: &[u8], lib: TypeLib, out: &mut [u8]) -> usize
+// The whole sheet, unless it passes the place `most`: then the last place, and what was emitted is of no use.
+pub(crate) fn put_sheet(s: &[u8], lib: TypeLib, most: usize, out: &mut [u8]) -> usize
     requires { ⌜ lib .count ≤ 65535 ⌝ }
-    ensures { λ r. ⌜ Emitted (sheetEmitted (now (s .entry)) lib) (put 0) (now (out .entry)) (put r) (now (out .exit)) ⌝ }
+    ensures { λ r. ⌜ Within most r (now (out .entry)) (now (out .exit)) (Emitted (sheetEmitted (now (s .entry)) lib) (put 0) (now (out .entry)) (put r) (now (out .exit))) ⌝ }
 {
     let count = lib.count as usize;
     emit::put_le(out, 0, lib.count as u64, 4);
     let start = TYPE_LENGTHS + 4 * count;
     let t = put_header(&*s, lib, out, start);
     patch(start, t, LIBRARY_LENGTH, out);
-    put_types(&*s, lib, out, t)
+    put_types(&*s, lib, most, out, t)
 }
 
 // Where the whole sheet would end, or its refusal.
@@ -52,18 +52,18 @@ fn put_header(s: &[u8], lib: TypeLib, out: &mut [u8], to: usize) -> usize
     values::put_opt_name(&*s, lib, emit::word_at(&*s, 0, 0x38), out, t)
 }
 
-// The bodies of all types, from `to` on, with their lengths in the contents. (A refusal ends it at once: nothing is emitted
-// behind one.)
-fn put_types(s: &[u8], lib: TypeLib, out: &mut [u8], to: usize) -> usize
+// The bodies of all types, from `to` on, with their lengths in the contents, unless they pass the place `most`. (That ends it at once,
+// and so does a refusal: nothing is emitted behind one.)
+fn put_types(s: &[u8], lib: TypeLib, most: usize, out: &mut [u8], to: usize) -> usize
     requires { ⌜ lib .count ≤ 65535 ⌝ }
-    ensures { λ r. ⌜ Twofold (lensOf (typeInfo edition-one (lib .count)) (typesFrom (now (s .entry)) lib (lib .count) 0)) (layAll (typeInfo edition-one (lib .count)) (typesFrom (now (s .entry)) lib (lib .count) 0)) 8 (put to) (now (out .entry)) (put r) (now (out .exit)) ⌝ }
+    ensures { λ r. ⌜ Within most r (now (out .entry)) (now (out .exit)) (Twofold (lensOf (typeInfo edition-one (lib .count)) (typesFrom (now (s .entry)) lib (lib .count) 0)) (layAll (typeInfo edition-one (lib .count)) (typesFrom (now (s .entry)) lib (lib .count) 0)) 8 (put to) (now (out .entry)) (put r) (now (out .exit))) ⌝ }
 {
     let count = lib.count as usize;
     let mut t = to;
     let mut i: usize = 0;
     while i < count {
-        if emit::PAST < t {
-            return t;
+        if most < t {
+            return if t < emit::PAST { emit::PAST } else { t };
         }
         let end = sheet_types::put_type_of(&*s, lib, i, out, t);
         patch(t, end, TYPE_LENGTHS + 4 * i, out);

@@ -20,9 +20,6 @@ const SMALL: usize = 16_384;
 
 const MEDIUM: usize = 131_072;
 
-// The bytes that a typeinfo has, with its word in the offset table.
-const TYPEINFO: usize = 104;
-
 // Writes the sheet of the library `s` to the front of the output and replies how many bytes it has; or
 // replies a refusal and writes nothing.
 pub fn sheet(s: &[u8], out: &mut [u8]) -> UsizeAnswer
@@ -40,15 +37,11 @@ pub fn sheet(s: &[u8], out: &mut [u8]) -> UsizeAnswer
 }
 
 // A sheet is mostly shorter than its library: that of a short library is made in memory of the call's own, as long as the library may
-// be, and copied when it is whole, so that it need not be measured first. (Where typeinfos share their bytes it may be much longer,
-// and measuring is quicker than making it.)
+// be, and copied when it is whole, so that it need not be measured first.
 fn write(s: &[u8], lib: TypeLib, out: &mut [u8]) -> UsizeAnswer
     requires { ⌜ lib .count ≤ 65535 ⌝ }
     ensures { λ r. ⌜ Answered (sheetEmitted (now (s .entry)) lib) (now (out .entry)) (toldUsize r) (now (out .exit)) ⌝ }
 {
-    if s.len() / TYPEINFO < lib.count as usize {
-        return write_measured(s, lib, out);
-    }
     if s.len() <= SMALL {
         return write_small(s, lib, out);
     }
@@ -89,11 +82,16 @@ fn write_in_medium(s: &[u8], lib: TypeLib, own: &mut [u8; MEDIUM], out: &mut [u8
     write_through(&*s, lib, own, out)
 }
 
+// (Where members share their bytes a sheet may be much longer than its library. Then it is measured after all, which is quicker than
+// making it.)
 fn write_through(s: &[u8], lib: TypeLib, own: &mut [u8], out: &mut [u8]) -> UsizeAnswer
     requires { ⌜ lib .count ≤ 65535 ⌝ }
     ensures { λ r. ⌜ Answered (sheetEmitted (now (s .entry)) lib) (now (out .entry)) (toldUsize r) (now (out .exit)) ⌝ }
 {
-    let size = contents::put_sheet(&*s, lib, own);
+    let size = contents::put_sheet(&*s, lib, own.len(), own);
+    if size == emit::PAST {
+        return write_measured(&*s, lib, out);
+    }
     finish(&*s, lib, own, size, out)
 }
 
@@ -124,7 +122,7 @@ fn finish(s: &[u8], lib: TypeLib, made: &[u8], size: usize, out: &mut [u8]) -> U
     if size <= made.len() {
         emit::put_bytes(&made[..size], &mut out[..size], 0);
     } else {
-        contents::put_sheet(&*s, lib, &mut out[..size]);
+        contents::put_sheet(&*s, lib, emit::PAST, &mut out[..size]);
     }
     UsizeAnswer::Value(size)
 }

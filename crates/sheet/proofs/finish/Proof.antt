@@ -1,8 +1,8 @@
-use native.Mathlib.Omega.{arith}
-use lib.Seq.{length-take-le}
-use mathlib.Core.Path.{sym}
-use Rattle.emit.specs.Laws.{known}
 use Rattle.sheet.proofs.CallLaws.{whole-refused, whole-long, whole-short, whole-done}
+use Rattle.emit.specs.Laws.{known}
+use mathlib.Core.Path.{sym}
+use lib.Seq.{length-take-le}
+use native.Mathlib.Omega.{arith}
 use borrow.Author.Needs.{needs}
 use Rattle.sheet.proofs.finish.Statement.{statement}
 use Rattle.sheet.proofs.finish.Tie as tie
@@ -56,7 +56,7 @@ same-length-2 : tie.Need-same-length-2
 same-length-2 c = search needs
 
 returns-5 : tie.Need-returns-5
-returns-5 c = whole-done _ _ (c .before .before .before .before .before .before .before .before .before .before .before .pre .1 .measured) (c .before .before .before .before .before .before .if2 .left) (c .before .before .before .before .before .if3 .left) (c .before .before .put-sheet .ensures)
+returns-5 c = whole-done _ _ (c .before .before .before .before .before .before .before .before .before .before .before .pre .1 .measured) (c .before .before .before .before .before .before .if2 .left) (c .before .before .before .before .before .if3 .left) (c .before .before .put-sheet .ensures .endless (omega arith))
 
 pub finish-spec : {M : Type 1} → statement M
 finish-spec =

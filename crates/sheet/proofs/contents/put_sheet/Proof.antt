@@ -1,4 +1,5 @@
 use Rattle.sheet.proofs.ContentLaws.{sheet-whole}
+use mathlib.Core.Path.{_∙_}
 use borrow.Author.Needs.{needs}
 use Rattle.sheet.proofs.contents.put_sheet.Statement.{statement}
 use Rattle.sheet.proofs.contents.put_sheet.Tie as tie
@@ -31,7 +32,7 @@ same-length : tie.Need-same-length
 same-length c = search needs
 
 returns : tie.Need-returns
-returns c = sheet-whole _ _ (c .before .before .before .before .before .before .before .before .before .before .before .before .before .before .before .before .before .before .before .before .pre) (c .before .before .before .before .before .before .before .before .before .before .before .before .before .before .put-le .ensures) (c .before .before .before .before .before .before .before .before .before .before .put-header .ensures) (c .before .before .before .before .before .before .patch .ensures) (c .before .before .put-types .ensures)
+returns c = let e = c .before .before .put-types .ensures in let w = sheet-whole _ _ (c .before .before .before .before .before .before .before .before .before .before .before .before .before .before .before .before .before .before .before .before .pre) (c .before .before .before .before .before .before .before .before .before .before .before .before .before .before .put-le .ensures) (c .before .before .before .before .before .before .before .before .before .before .put-header .ensures) (c .before .before .before .before .before .before .patch .ensures) in record { short = λ f. w (e .short f); endless = λ h. w (e .endless h); keeps = e .keeps ∙ c .before .before .before .before .before .before .patch .ensures .keeps ∙ c .before .before .before .before .before .before .before .before .before .before .put-header .ensures .keeps ∙ c .before .before .before .before .before .before .before .before .before .before .before .before .before .before .put-le .ensures .keeps }
 
 pub put-sheet-spec : {M : Type 1} → statement M
 put-sheet-spec =
