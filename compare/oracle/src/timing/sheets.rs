@@ -37,6 +37,10 @@ pub fn print(is_long: bool) {
             "sheet, 64 KB, 700 million descriptions",
             large::many_descriptions(8_100, 32),
         ),
+        (
+            "sheet, 64 KB, 100 million descriptions",
+            large::many_descriptions(600, 32),
+        ),
         ("sheet, 16 MB, one chain", large::longest_chain(-1)),
         (
             "sheet, 16 MB, one scattered chain",
