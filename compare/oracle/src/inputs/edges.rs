@@ -11,6 +11,12 @@ const POINTERS: [usize; 6] = [1, 30, 31, 32, 33, 34];
 /// Types and depth of libraries that hold many descriptions; the first takes seconds.
 const HOSTILE: [(usize, usize); 4] = [(8_100, 32), (8_100, 33), (500, 32), (20, 32)];
 
+/// A text that makes a sheet too long where it stands twice.
+pub const TOO_LONG: usize = 12 << 20;
+
+/// How many bytes of sheet the product's call makes in memory of its own.
+const OWN_MEMORY: [usize; 2] = [16_384, 131_072];
+
 /// Inputs of at most a little more than the sheet program takes.
 pub fn small() -> Vec<Input> {
     let mut inputs = quick();
@@ -70,7 +76,17 @@ pub fn large() -> Vec<Input> {
         ));
     }
     inputs.extend(chains());
-    inputs.extend(refused_late());
+    inputs.extend(refused_late("too long", TOO_LONG));
+    for length in OWN_MEMORY {
+        for length in [length - 1, length, length + 1] {
+            inputs.push(Input::new(
+                format!("a sheet of {length}"),
+                large::sheet_of(length),
+            ));
+        }
+        let word = format!("a sheet past {length}");
+        inputs.extend(refused_late(&word, length * 9 / 16));
+    }
     for (word, bytes) in [
         ("many functions", large::many_functions(2)),
         (
@@ -121,16 +137,16 @@ pub fn chains() -> impl Iterator<Item = Input> {
     .map(|(word, bytes)| Input::new(word.into(), bytes))
 }
 
-/// Sheets that are too long, and types behind that refuse for another reason.
-fn refused_late() -> impl Iterator<Item = Input> {
+/// Sheets that are as long as twice a text, and types behind that refuse for another reason.
+fn refused_late(length: &str, text: usize) -> impl Iterator<Item = Input> {
     [
-        ("too long, then a circle", large::typeinfo(5, 0, 0)),
-        ("too long, then too deep", large::typeinfo(6, 0, 0)),
-        ("too long, then a short typeinfo", Vec::new()),
-        ("too long, then an enum", large::typeinfo(0, 0, 0)),
+        ("a circle", large::typeinfo(5, 0, 0)),
+        ("too deep", large::typeinfo(6, 0, 0)),
+        ("a short typeinfo", Vec::new()),
+        ("an enum", large::typeinfo(0, 0, 0)),
     ]
     .into_iter()
-    .map(|(word, last)| Input::new(word.into(), too_long_then(last)))
+    .map(move |(word, last)| Input::new(format!("{length}, then {word}"), long_then(text, last)))
 }
 
 /// Headers and directories at their edges.
@@ -196,15 +212,14 @@ pub fn padded(length: usize) -> Vec<u8> {
     bytes
 }
 
-/// A library whose second type alone makes the sheet too long; then comes a third that refuses.
+/// A library whose second type has a text of that length twice; then comes a third that refuses.
 /// An empty typeinfo stands for one whose offset is past the end.
-pub fn too_long_then(mut last: Vec<u8>) -> Vec<u8> {
+pub fn long_then(text: usize, mut last: Vec<u8>) -> Vec<u8> {
     let third = if last.is_empty() { 1 << 25 } else { 200 };
     let mut layout = Layout::new(vec![0, 100, third]);
     let mut typeinfos = large::typeinfo(0, -1, 0);
     typeinfos.extend(large::typeinfo(0, -1, 2 << 16));
     typeinfos.append(&mut last);
-    let text = 12 << 20;
     let mut constants = vec![8, 0];
     constants.extend((text as u32).to_le_bytes());
     constants.resize(6 + text, b'y');

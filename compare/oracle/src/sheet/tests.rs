@@ -1,7 +1,7 @@
 //! The edges of document 01, and one whole sheet written out by hand.
 
 use super::{MOST_BYTES, MOST_TYPES, program_line, refusal, sheet};
-use crate::inputs::edges::{alias, too_long_then};
+use crate::inputs::edges::{TOO_LONG, alias, long_then};
 use crate::inputs::large::{self, typeinfo};
 use crate::inputs::layout::{self, Layout, set_word, word, words};
 
@@ -124,19 +124,19 @@ fn a_sheet_that_is_too_long_is_refused_last() {
     for room in [0, 1, 11, 22, 499] {
         assert_eq!(sheet(&large::sheet_of(500), room), Err(refusal::NO_SPACE));
     }
-    let circle = too_long_then(typeinfo(5, 0, 0));
+    let circle = long_then(TOO_LONG, typeinfo(5, 0, 0));
     assert_eq!(reply(&circle), Err(refusal::CIRCLE));
     assert_eq!(sheet(&circle, 0), Err(refusal::CIRCLE));
     assert_eq!(
-        reply(&too_long_then(typeinfo(6, 0, 0))),
+        reply(&long_then(TOO_LONG, typeinfo(6, 0, 0))),
         Err(refusal::TOO_DEEP)
     );
     assert_eq!(
-        reply(&too_long_then(Vec::new())),
+        reply(&long_then(TOO_LONG, Vec::new())),
         Err(refusal::SHORT_TYPEINFO)
     );
     assert_eq!(
-        reply(&too_long_then(typeinfo(0, 0, 0))),
+        reply(&long_then(TOO_LONG, typeinfo(0, 0, 0))),
         Err(refusal::NO_SPACE)
     );
 }
