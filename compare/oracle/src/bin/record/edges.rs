@@ -43,6 +43,7 @@ const EMPTY_SHEET: [&[u8]; 2] = [
 pub fn libraries() -> Vec<Library> {
     let mut libraries = parsed();
     libraries.extend(sheets());
+    libraries.extend(long_sheets());
     libraries.extend(of_words(Made::new(&[]), Ask::ConstValue, &CONSTANTS));
     libraries.extend(of_words(
         Made::new(&[0, 0]),
@@ -88,6 +89,24 @@ fn sheets() -> [Library; 3] {
     .map(|(bytes, answer)| expect(Library::asked(bytes, Vec::new()), Ask::Sheet, &[answer]))
 }
 
+/// Sheets of 17,118 bytes, 53 of them for each type and 4 for its length: longer than their libraries, and
+/// than the memory in which the product makes the sheets of such short ones. There a last type must still be
+/// refused.
+fn long_sheets() -> [Library; 3] {
+    const TYPES: usize = 300;
+    let with_last = |offset| {
+        let mut offsets = [0; TYPES];
+        offsets[TYPES - 1] = offset;
+        aliases(&offsets, 32)
+    };
+    [
+        (with_last(0), [0, 0xDE, 0x42, 0, 0, 0, 0, 0, 0].as_slice()),
+        (with_last(u32::MAX), &[6]),
+        (with_last(1 << 25), &[8]),
+    ]
+    .map(|(bytes, answer)| expect(Library::asked(bytes, Vec::new()), Ask::Sheet, &[answer]))
+}
+
 /// A library whose one typeinfo has a byte too few.
 fn short_typeinfo() -> Vec<u8> {
     let mut made = Made::new(&[0]);
@@ -95,10 +114,16 @@ fn short_typeinfo() -> Vec<u8> {
     made.bytes()
 }
 
-/// A library with an alias whose tree nests that many descriptions: pointers, and a base inside them.
+/// A library with an alias whose tree nests that many descriptions.
 fn nested(descriptions: u32) -> Vec<u8> {
+    aliases(&[0], descriptions)
+}
+
+/// A library with typeinfos at these offsets, where at 0 there is an alias whose tree nests that many
+/// descriptions: pointers, and a base inside them.
+fn aliases(offsets: &[u32], descriptions: u32) -> Vec<u8> {
     const POINTER: u32 = 26;
-    let mut made = Made::new(&[0]);
+    let mut made = Made::new(offsets);
     made.segment(TYPEINFO_SEGMENT, &typeinfo(6, 0, 0, 0, 0));
     let pointers = descriptions - 1;
     let words = (1..=pointers).flat_map(|number| {
