@@ -48,7 +48,8 @@ pub record Twofold (ks xs : Answer Bytes) (c : ℕ) (t : Put) (o : List ℕ) (r 
   pub lays : LaidTwo ks xs c t o o′
   pub keeps : length o′ ≡ length o
 
--- P, which an emitter that replies r has done, unless it gave up where its bytes passed the place `most`: then it replies the last place
+-- An emitter that replies r has done P, unless it gave up where its bytes passed the place `most`. Then it replies the last place, so it
+-- has done P where it replies another (`short`), and where no place is past `most` (`endless`).
 pub record Within (most r : ℕ) (o o′ : List ℕ) (P : Type 0) : Type 0 where
   pub short : (r ≡ past → ⊥) → P
   pub endless : past ≤ most → P

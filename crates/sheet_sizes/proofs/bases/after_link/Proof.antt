@@ -1,5 +1,4 @@
 use Rattle.sheet_trees.proofs.PartLaws.{here-referred}
-use mathlib.Core.Path.{_≡_, refl}
 use mathlib.Core.Logic.{⊎-elim}
 use native.Mathlib.Omega.{arith}
 use Rattle.records.specs.Answer.{value}

@@ -1,4 +1,4 @@
-use mathlib.Core.Path.{_≡_, refl, ap, _∙_, sym}
+use mathlib.Core.Path.{refl, _∙_, sym}
 use Rattle.typelib.specs.Told.{toldPair}
 use Rattle.records.specs.AnswerLaws.{tells, bind-value, bind-refused}
 use Rattle.typelib.specs.Descriptors.{descriptionOf}
