@@ -18,6 +18,7 @@ use Rattle.records.specs.Answer.{value, refused}
 use Rattle.records.specs.Layout.{sizeOf, offsetOf, impInfo}
 use Rattle.records.specs.Record.{bitsOf}
 use Rattle.typelib.specs.declared.TypeLib.{TypeLib}
+use Rattle.typelib.specs.Header.{typeCount}
 use Rattle.typelib.specs.Tables.{lent, negative, tablePlace}
 use Rattle.typelib.specs.References.{Resolved, internalIndex, impFileAt, inThisFile, cleared, resolvedAt, hrefResolved}
 use Rattle.typelib.specs.References.{internal as here, external}
@@ -27,13 +28,13 @@ use Rattle.describe.specs.Answers.{IfValue, gives, refuses, told, anythi
 module _ (s : List ℕ) (lib : TypeLib) where
   -- ---- references
 
-  module _ (P : Resolved → Type 0) (internal : (i : ℕ) → i < lib .count → P (here i))
+  module _ (P : Resolved → Type 0) (internal : (i : ℕ) → i < typeCount lib → P (here i))
       (imported : (p : Place) (offset : ℕ) → value p ≡ tablePlace true s lib 1 offset (sizeOf impInfo) → P (external p (impFileAt s lib (le 4 s (p .at + offsetOf impInfo "oImpFile"))))) where
-    index-case : (h : ℕ) → IfValue (λ i. P (here i)) (internalIndex (lib .count) h)
+    index-case : (h : ℕ) → IfValue (λ i. P (here i)) (internalIndex (typeCount lib) h)
     unfolding internalIndex
     index-case h =
-        cond-elim (IfValue (λ i. P (here i))) (ltb (h / 100) (lib .count)) (value (h / 100)) (refused 9)
-        (λ e. gives (internal (h / 100) (ltb-true (h / 100) (lib .count) e)))
+        cond-elim (IfValue (λ i. P (here i))) (ltb (h / 100) (typeCount lib)) (value (h / 100)) (refused 9)
+        (λ e. gives (internal (h / 100) (ltb-true (h / 100) (typeCount lib) e)))
         (λ _. refuses tt)
 
     at-case : (h : ℕ) → IfValue P (resolvedAt s lib h)

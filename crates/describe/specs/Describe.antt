@@ -6,7 +6,7 @@ use Prim.Native.Nat.{ℕ}
 use lib.Dec.{ltb}
 use Rattle.records.specs.Answer.{Answer, refused, map, bind}
 use Rattle.typelib.specs.declared.TypeLib.{TypeLib}
-use Rattle.typelib.specs.Header.{header, parseOf}
+use Rattle.typelib.specs.Header.{header, parseOf, typeCount}
 use Rattle.description.specs.Description.{Header, TypeInfo, Library}
 use Rattle.description.specs.Sheet.{Edition}
 use Rattle.describe.specs.Values.{fieldOf, all}
@@ -26,12 +26,12 @@ headerOf s lib =
 
 -- the types upward
 abbrev pub typesOf : List ℕ → TypeLib → Answer (List TypeInfo)
-typesOf s lib = all (typesFrom s lib (lib .count) 0)
+typesOf s lib = all (typesFrom s lib (typeCount lib) 0)
 
 -- 13 where there are more types than the edition allows
 unfoldable pub describeAs : Edition → List ℕ → TypeLib → Answer Library
 describeAs e s lib =
-    cond (ltb (e .mostTypes) (lib .count)) (refused 13)
+    cond (ltb (e .mostTypes) (typeCount lib)) (refused 13)
     (map (λ types. record { header = headerOf s lib; types = types }) (typesOf s lib))
 
 -- "1 to 5 in order, 13, then types upward (6, 7, 8; base; functions with result tree before parameters; variables)"

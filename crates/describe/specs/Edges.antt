@@ -6,7 +6,7 @@ use Rattle.records.specs.Answer.{value}
 use Rattle.describe.specs.WorkedCases.{library}
 use Rattle.typelib.specs.Header.{libraryOf, parseOf}
 use Rattle.typelib.specs.Tables.{lent, segmentPlace, segmentOf}
-use Rattle.impltypes.specs.Tabulate.{tabulate}
+use Rattle.typelib.specs.Tabulate.{tabulate}
 use Rattle.description.specs.Edges.{smallest}
 use Rattle.description.specs.Sheet.{edition-one}
 use Rattle.describe.specs.Values.{all}

@@ -11,7 +11,7 @@ use Rattle.util.specs.Read.{cond-elim}
 use Rattle.records.specs.Answer.{value}
 use Rattle.records.specs.Record.{limit}
 use Rattle.typelib.specs.declared.TypeLib.{TypeLib}
-use Rattle.typelib.specs.Header.{header, parseOf}
+use Rattle.typelib.specs.Header.{header, parseOf, typeCount}
 use Rattle.description.specs.Format.{Fits, Each}
 use Rattle.description.specs.Description.{Library}
 use Rattle.description.specs.Sheet.{Edition, edition-one, typeInfo, sheet, sheetBytes}
@@ -46,11 +46,11 @@ module _ (e : Edition) (roomy : Roomy e) (s : List ℕ) (octets : Octets s) wher
   library-fitting : (lib : TypeLib) → IfValue (Fitting e) (describeAs e s lib)
   unfolding describeAs
   library-fitting lib =
-      cond-elim (IfValue (Fitting e)) (ltb (e .mostTypes) (lib .count)) _ _ (λ _. refuses tt) (λ h.
-      let few : lib .count ≤ e .mostTypes = ltb-false (e .mostTypes) (lib .count) h in
+      cond-elim (IfValue (Fitting e)) (ltb (e .mostTypes) (typeCount lib)) _ _ (λ _. refuses tt) (λ h.
+      let few : typeCount lib ≤ e .mostTypes = ltb-false (e .mostTypes) (typeCount lib) h in
       answers-map (λ types. record { header = headerOf s lib; types = types })
-      (answers-all (typesFrom s lib (lib .count) 0) (types-fit s octets lib e (omega arith) (lib .count) 0)) (λ types f.
-      let q : length types ≡ lib .count = f .0 ∙ types-length s lib (lib .count) 0 in
+      (answers-all (typesFrom s lib (typeCount lib) 0) (types-fit s octets lib e (omega arith) (typeCount lib) 0)) (λ types f.
+      let q : length types ≡ typeCount lib = f .0 ∙ types-length s lib (typeCount lib) 0 in
       record {
         header = header-fits lib;
         types = subst (λ (n : ℕ). Each (Fits (typeInfo e n)) types) (sym q) (f .1);

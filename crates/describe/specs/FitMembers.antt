@@ -22,6 +22,7 @@ use Rattle.records.specs.Attributes.{atLeastZero, argumentCount, defaultValueOf
 use Rattle.records.specs.Layout.{sizeOf, parameterInfo, funcRecord, varRecord}
 use Rattle.records.specs.Record.{field, signed32, bitsOf, recordPlace, flagSet}
 use Rattle.typelib.specs.declared.TypeLib.{TypeLib}
+use Rattle.typelib.specs.Header.{typeCount}
 use Rattle.typelib.specs.declared.typeinfos.Counts.{Counts}
 use Rattle.cursors.specs.declared.iterators.FuncCursor.{FuncCursor}
 use Rattle.cursors.specs.declared.iterators.VarCursor.{VarCursor}
@@ -137,9 +138,9 @@ module _ (s : List ℕ) (octets : Octets s) where
   memid-fits first ti i =
       opt-fits u32 (if-found (answers-map (ofZ w32) (answers-map {Q = λ z. ofZ w32 z < 256 ^ 4} (toZ w32) (member-word first ti i) (λ n h. signed-lt w32 n h)) (λ z h. h)))
 
-  module _ (lib : TypeLib) (e : Edition) (room : lib .count ≤ 256 ^ e .indexWidth) where
+  module _ (lib : TypeLib) (e : Edition) (room : typeCount lib ≤ 256 ^ e .indexWidth) where
     abbrev n : ℕ
-    n = lib .count
+    n = typeCount lib
 
     by-fits : (a : Answer ℤ) → Fits (opt constant) (constantBy s lib a)
     by-fits (value z) = const-fits s octets lib (ofZ w32 z)

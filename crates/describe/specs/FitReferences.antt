@@ -12,6 +12,7 @@ use Rattle.records.specs.Layout.{impFile, impInfo}
 use Rattle.records.specs.Record.{fieldPlace, fieldAt, bitsOf, partOf}
 use Rattle.records.specs.RecordLaws.{lies}
 use Rattle.typelib.specs.declared.TypeLib.{TypeLib}
+use Rattle.typelib.specs.Header.{typeCount}
 use Rattle.typelib.specs.References.{Resolved, hrefResolved}
 use Rattle.typelib.specs.References.{internal as here, external}
 use Rattle.description.specs.Format.{Fits, opt}
@@ -71,22 +72,22 @@ module _ (s : List ℕ) (octets : Octets s) where
     -- ---- the index is that of a type
 
     abbrev Inside : Resolved → Type 0
-    Inside (here i) = i < lib .count
+    Inside (here i) = i < typeCount lib
     Inside (external p a) = Unit {0}
 
     href-inside : (h : ℕ) → IfValue Inside (hrefResolved s lib h)
     href-inside = resolved-cases s lib Inside (λ i k. k) (λ _ _ _. tt)
 
-    module _ (e : Edition) (room : lib .count ≤ 256 ^ e .indexWidth) where
-      from-fits : (bit : ℕ) (a : Answer Resolved) → bit < 2 → IfValue Inside a → Fits (reference e (lib .count)) (referenceFrom s lib bit a)
+    module _ (e : Edition) (room : typeCount lib ≤ 256 ^ e .indexWidth) where
+      from-fits : (bit : ℕ) (a : Answer Resolved) → bit < 2 → IfValue Inside a → Fits (reference e (typeCount lib)) (referenceFrom s lib bit a)
       unfolding referenceFrom
       from-fits bit (value (here i)) h k =
-          let j : i < lib .count = answers-value k refl in
-          internal-fits e (lib .count) (record { bit = bit; index = i }) h (omega arith) j
+          let j : i < typeCount lib = answers-value k refl in
+          internal-fits e (typeCount lib) (record { bit = bit; index = i }) h (omega arith) j
       from-fits bit (value (external p a)) h k =
-          imported-fits e (lib .count) (importOf s lib bit (p .at) a) (import-fits bit (p .at) a h)
-      from-fits bit (refused n) h k = unresolved-fits e (lib .count)
+          imported-fits e (typeCount lib) (importOf s lib bit (p .at) a) (import-fits bit (p .at) a h)
+      from-fits bit (refused n) h k = unresolved-fits e (typeCount lib)
 
-      pub reference-fits : (h : ℕ) → Fits (reference e (lib .count)) (referenceOf s lib h)
+      pub reference-fits : (h : ℕ) → Fits (reference e (typeCount lib)) (referenceOf s lib h)
       unfolding referenceOf
       reference-fits h = from-fits (bitsOf 24 1 h) (hrefResolved s lib h) (omega arith) (href-inside h)

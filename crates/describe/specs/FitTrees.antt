@@ -11,6 +11,7 @@ use Rattle.records.specs.declared.types.TypeDescription.the-variants as type
 use Rattle.records.specs.Answer.{Answer, value, refused}
 use Rattle.records.specs.Layout.{sizeOf, arrayDesc, arrayBound}
 use Rattle.typelib.specs.declared.TypeLib.{TypeLib}
+use Rattle.typelib.specs.Header.{typeCount}
 use Rattle.typelib.specs.Tables.{lent}
 use Rattle.typelib.specs.Descriptors.{typeDescription}
 use Rattle.description.specs.Format.{Fits, Each, list}
@@ -66,9 +67,9 @@ module _ (s : List ℕ) (octets : Octets s) where
     field-small : (field : ℕ) → IfValue Small (lent s (typeDescription s lib field))
     field-small = description-cases s lib Small (λ code h. omega arith) (λ _. tt) (λ _. tt) (λ _ _ _. tt) (λ _. tt)
 
-    module _ (e : Edition) (room : lib .count ≤ 256 ^ e .indexWidth) where
+    module _ (e : Edition) (room : typeCount lib ≤ 256 ^ e .indexWidth) where
       abbrev n : ℕ
-      n = lib .count
+      n = typeCount lib
 
       from-fits : (k : ℕ) (below : ℕ → Answer Tree) → ((x : ℕ) → IfValue (Fits (nested e n k)) (below x))
           → (a : Answer TypeDescription) → IfValue Small a → IfValue (Fits (nested e n (suc k))) (treeFrom s lib below a)

@@ -9,6 +9,7 @@ use Rattle.records.specs.declared.answer.Place.{Place}
 use Rattle.records.specs.declared.typeinfo.TypeInfoEntry.{TypeInfoEntry}
 use Rattle.records.specs.Layout.{typeInfoBase, refRecord}
 use Rattle.typelib.specs.declared.TypeLib.{TypeLib}
+use Rattle.typelib.specs.Header.{typeCount}
 use Rattle.impltypes.specs.declared.ImplTypeCursor.{ImplTypeCursor}
 use Rattle.impltypes.specs.Chain.{implTypesOf, recordsOf}
 use Rattle.impltypes.specs.ChainLaws.{records-length, walk-took, walk-most}
@@ -44,9 +45,9 @@ unfolding typesFrom
 types-length s lib zero i = refl
 types-length s lib (suc k) i = ap suc (types-length s lib k (i + 1))
 
-module _ (s : List ℕ) (octets : Octets s) (lib : TypeLib) (e : Edition) (room : lib .count ≤ 256 ^ e .indexWidth) where
+module _ (s : List ℕ) (octets : Octets s) (lib : TypeLib) (e : Edition) (room : typeCount lib ≤ 256 ^ e .indexWidth) where
   abbrev n : ℕ
-  n = lib .count
+  n = typeCount lib
 
   -- ---- the base
 

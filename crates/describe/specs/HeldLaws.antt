@@ -22,7 +22,7 @@ use Rattle.cursors.specs.CursorLaws.{lent-value}
 use Rattle.impltypes.specs.declared.ImplTypeCursor.{ImplTypeCursor}
 use Rattle.impltypes.specs.Chain.{placeAt, recordsOf}
 use Rattle.impltypes.specs.ChainLaws.{place-is, inside, walk-took, records}
-use Rattle.impltypes.specs.Tabulate.{tabulate}
+use Rattle.typelib.specs.Tabulate.{tabulate}
 use Rattle.description.specs.Format.{Each}
 use Rattle.typelib.specs.References.{Resolved, impFileAt, hrefResolved}
 use Rattle.typelib.specs.References.{internal as here, external}
@@ -72,13 +72,13 @@ module _ (s : List ℕ) where
 
     pub record Starts (k offset : ℕ) (p : Place) : Type 0 where
       pub table : Place
-      pub segment : value table ≡ segmentOf s lib k
+      pub segment : value table ≡ segmentOf lib k
       pub at : p .at ≡ table .at + offset
 
     starts : (strict : Bool) (k offset size : ℕ) (p : Place) → value p ≡ tablePlace strict s lib k offset size → Starts k offset p
-    starts strict k offset size p e = by (segmentOf s lib k) refl (lent-value s p _ e .is)
+    starts strict k offset size p e = by (segmentOf lib k) refl (lent-value s p _ e .is)
       where
-        by : (a : Answer Place) → a ≡ segmentOf s lib k → value p ≡ bind a (λ table. placeIn strict s table offset size) → Starts k offset p
+        by : (a : Answer Place) → a ≡ segmentOf lib k → value p ≡ bind a (λ table. placeIn strict s table offset size) → Starts k offset p
         by (value table) h f =
             record { table = table; segment = h; at = ap (λ (x : Place). x .at) (place-is strict s table offset size p f) }
         by (refused n) h f = absurd (let z : _≡_ {A = ℕ} 0 1 = cc in omega arith)

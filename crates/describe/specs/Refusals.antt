@@ -28,10 +28,10 @@ use Rattle.impltypes.specs.Chain.{referenceTable, implTypesOf, returnsAt, taken
 use Rattle.constants.specs.Constants.{among}
 use Rattle.cursors.specs.Cursors.{funcsOf, varsOf, paramsOf}
 use Rattle.typelib.specs.Descriptors.{typeDescription}
-use Rattle.typelib.specs.Header.{header, word, signature, directoryAt, parseOf}
+use Rattle.typelib.specs.Header.{header, word, signature, directoryAt, parseOf, typeCount}
 use Rattle.typelib.specs.Tables.{lent, negative, segmentOf, placeIn}
 use Rattle.typelib.specs.TableLaws.{found-in}
-use Rattle.impltypes.specs.Tabulate.{tabulate}
+use Rattle.typelib.specs.Tabulate.{tabulate}
 use Rattle.typelib.specs.TypeInfos.{refusing, offsetWord, typeinfoIn, typeinfoOf}
 use Rattle.description.specs.Format.{Each}
 use Rattle.description.specs.Description.{Bytes, BaseShape, baseShapeOf, Tree, Library}
@@ -156,7 +156,7 @@ module _ (s : List ℕ) (lib : TypeLib) where
       answers-lent s _ tt (λ few.
       answers-bind (refusing-sound {P = λ _. Unit {0}} 6 (offsetWord s lib i) tt (λ _ _. tt)) (λ offset _.
       cond-elim (Answers Listed P) (negative offset) _ _ (λ _. refuses tt) (λ _.
-      answers-bind (refusing-sound {P = λ _. Unit {0}} 7 (segmentOf s lib 0) tt (λ _ _. tt)) (λ table _.
+      answers-bind (refusing-sound {P = λ _. Unit {0}} 7 (segmentOf lib 0) tt (λ _ _. tt)) (λ table _.
       refusing-sound 8 (placeIn _ s table offset 100) tt (λ p e.
       let f = found-in _ s table offset 100 p e in
       record { few = few; whole = omega (arith, f .whole); inside = omega (arith, f .whole, f .inside) })))))
@@ -195,9 +195,9 @@ module _ (e : Edition) (s : List ℕ) where
   as-sound : (lib : TypeLib) → Sound (describeAs e s lib)
   unfolding describeAs
   as-sound lib =
-      cond-elim Sound (ltb (e .mostTypes) (lib .count)) _ _ (λ _. refuses tt) (λ _.
+      cond-elim Sound (ltb (e .mostTypes) (typeCount lib)) _ _ (λ _. refuses tt) (λ _.
       answers-map (λ types. record { header = headerOf s lib; types = types })
-      (sound-all (typesFrom s lib (lib .count) 0) (types-sound s lib (lib .count) 0)) (λ _ _. tt))
+      (sound-all (typesFrom s lib (typeCount lib) 0) (types-sound s lib (typeCount lib) 0)) (λ _ _. tt))
 
   pub describe-sound : Sound (describe e s)
   unfolding describe

@@ -24,13 +24,13 @@ use Rattle.impltypes.specs.declared.WalkAnswer.the-variants as walk
 use Rattle.cursors.specs.Cursors.{Step, yielded, ended}
 use Rattle.impltypes.specs.Search.{someBelow, firstBelow}
 use Rattle.typelib.specs.Tables.{lent, segmentOf, placeIn, tableOf}
-use Rattle.impltypes.specs.Tabulate.{tabulate}
+use Rattle.typelib.specs.Tabulate.{tabulate}
 
 -- ---- where a chain starts
 
 -- segment 3; where it is missing, offsets count from file offset 0
 abbrev pub referenceTable : List ℕ → TypeLib → Place
-referenceTable s lib = tableOf (segmentOf s lib 3)
+referenceTable s lib = tableOf (segmentOf lib 3)
 
 -- a typeinfo's chain starts at `datatype1`
 abbrev pub implTypesOf : List ℕ → TypeLib → TypeInfoEntry → Answer ImplTypeCursor

@@ -22,25 +22,12 @@ use Rattle.impltypes.specs.declared.ImplTypeCursor.{ImplTypeCursor}
 use Rattle.impltypes.specs.Search.{apart, Some, some-below, none-below, before-first, at-first, Twice, twice}
 use Rattle.typelib.specs.Tables.{lent, negative, inTable, placeIn}
 use Rattle.typelib.specs.TableLaws.{lent-fits, found-in}
-use Rattle.impltypes.specs.Tabulate.{tabulate, length-tabulate}
+use Rattle.typelib.specs.Tabulate.{tabulate, getD-tabulate}
 use Rattle.cursors.specs.Cursors.{yielded, ended}
 use Rattle.impltypes.specs.Chain.{referenceTable, implTypesOf, referenceAt, onext, implTypeStepFrom, implTypeStep, isRefused}
 use Rattle.impltypes.specs.Chain.{offsetAt, endsAt, returnsAt, taken, walkOf, placeAt, recordsOf, cursorAt, Passes, Length, Circle}
 
--- ---- lists by a rule, and places in a table
-
-pub getD-tabulate : {A : Type 0} (f : ℕ → A) (n k : ℕ) (d : A) → k < n → getD (tabulate f n) k d ≡ f k
-unfolding tabulate
-getD-tabulate f zero k d h = absurd (omega arith)
-getD-tabulate f (suc n) k d h = by (ltb k n) refl (getD-tabulate f n k d)
-  where
-    by : (b : Bool) → ltb k n ≡ b → (k < n → getD (tabulate f n) k d ≡ f k) → getD (tabulate f n ++ (f n ∷ [])) k d ≡ f k
-    by true e ih =
-        let l : k < n = ltb-true k n e in
-        List·getD-append (tabulate f n) (f n ∷ []) d k (omega (arith, length-tabulate f n)) ∙ ih l
-    by false e ih =
-        let q : k ≡ n = omega (arith, ltb-false k n e) in
-        rw q (getD-at (tabulate f n) (f n) [] d n (length-tabulate f n))
+-- ---- places in a table
 
 -- a place that was found is at the table's start and the offset
 pub place-is : (strict : Bool) (s : List ℕ) (table : Place) (offset size : ℕ) (p : Place) → value p ≡ placeIn strict s table offset size → p ≡ record { at = table .at + offset; len = size }

@@ -14,9 +14,9 @@ use Rattle.records.specs.Answer.{Answer, value, refused, map}
 use Rattle.typelib.specs.declared.TypeLib.{TypeLib}
 use Rattle.impltypes.specs.declared.ImplTypeCursor.{ImplTypeCursor}
 use Rattle.impltypes.specs.Chain.{implTypesOf, offsetAt, walkOf, placeAt, recordsOf, cursorAt, implTypeStep}
-use Rattle.impltypes.specs.ChainLaws.{getD-tabulate, walk-took, step-along}
+use Rattle.impltypes.specs.ChainLaws.{walk-took, step-along}
 use Rattle.cursors.specs.Cursors.{yielded, ended}
-use Rattle.impltypes.specs.Tabulate.{tabulate, length-tabulate}
+use Rattle.typelib.specs.Tabulate.{tabulate, length-tabulate, getD-tabulate}
 use Rattle.description.specs.Format.{encode, list, joined, leBytes}
 use Rattle.description.specs.Description.{BaseShape, baseShapeOf}
 use Rattle.description.specs.Description.BaseShape.{absent, parent, implTypes, aliased}

@@ -6,9 +6,10 @@ use lib.ListN.{drop}
 use Rattle.records.specs.declared.typeinfo.TypeInfoEntry.{TypeInfoEntry}
 use Rattle.records.specs.Answer.{Answer, map}
 use Rattle.typelib.specs.declared.TypeLib.{TypeLib}
+use Rattle.typelib.specs.Header.{typeCount}
 use Rattle.impltypes.specs.declared.ImplTypeCursor.{ImplTypeCursor}
 use Rattle.impltypes.specs.Chain.{placeAt, recordsOf}
-use Rattle.impltypes.specs.Tabulate.{tabulate}
+use Rattle.typelib.specs.Tabulate.{tabulate}
 use Rattle.description.specs.Format.{encode, list, joined}
 use Rattle.description.specs.Description.{Bytes, BaseShape, baseShapeOf}
 use Rattle.description.specs.Sheet.{edition-one, u32, implType, base}
@@ -16,15 +17,15 @@ use Rattle.describe.specs.Types.{implTypeAt, baseOf}
 
 -- the base of a type, by its shape, and by the type's kind
 unfoldable pub shapeEmitted : List ℕ → TypeLib → TypeInfoEntry → BaseShape → Answer Bytes
-shapeEmitted s lib ti h = map (encode (base edition-one (lib .count) h)) (baseOf s lib ti h)
+shapeEmitted s lib ti h = map (encode (base edition-one (typeCount lib) h)) (baseOf s lib ti h)
 
 unfoldable pub baseEmitted : List ℕ → TypeLib → TypeInfoEntry → ℕ → Answer Bytes
 baseEmitted s lib ti kind = shapeEmitted s lib ti (baseShapeOf kind)
 
 -- the chain from a cursor on
 unfoldable pub chainEmitted : List ℕ → TypeLib → ImplTypeCursor → Answer Bytes
-chainEmitted s lib c = map (encode (list u32 (implType edition-one (lib .count)))) (map (lists.map (implTypeAt s lib)) (recordsOf s c))
+chainEmitted s lib c = map (encode (list u32 (implType edition-one (typeCount lib)))) (map (lists.map (implTypeAt s lib)) (recordsOf s c))
 
 -- of the first n records of the chain, those from the k-th on
 unfoldable pub linksBytes : List ℕ → TypeLib → ImplTypeCursor → ℕ → ℕ → Bytes
-linksBytes s lib c n k = joined (implType edition-one (lib .count)) (lists.map (implTypeAt s lib) (drop k (tabulate (placeAt s c) n)))
+linksBytes s lib c n k = joined (implType edition-one (typeCount lib)) (lists.map (implTypeAt s lib) (drop k (tabulate (placeAt s c) n)))

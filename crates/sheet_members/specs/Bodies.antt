@@ -5,6 +5,7 @@ use Prim.Native.Nat.{ℕ, suc, _+_, _-_, _≤_, _<_}
 use native.Mathlib.Omega.{arith}
 use Rattle.records.specs.Answer.{Answer, value, map}
 use Rattle.typelib.specs.declared.TypeLib.{TypeLib}
+use Rattle.typelib.specs.Header.{typeCount}
 use Rattle.description.specs.Format.{encode}
 use Rattle.description.specs.Description.{Bytes}
 use Rattle.description.specs.Sheet.{edition-one, typeInfo}
@@ -15,12 +16,12 @@ use Rattle.sheet_members.specs.Lists.{layAll}
 module _ (s : List ℕ) (lib : TypeLib) where
   -- those of n types from type i on
   abbrev pub bodies : ℕ → ℕ → Answer Bytes
-  bodies n i = layAll (typeInfo edition-one (lib .count)) (typesFrom s lib n i)
+  bodies n i = layAll (typeInfo edition-one (typeCount lib)) (typesFrom s lib n i)
 
   pub bodies-all : (n : ℕ) → bodies (n - 0) 0 ≡ bodies n 0
   bodies-all n = let e : n - 0 ≡ n = omega arith in rw e
 
-  pub bodies-more : (n i : ℕ) → i < n → bodies (n - i) i ≡ map (encode (typeInfo edition-one (lib .count))) (typeOf s lib i) ▸ bodies (n - (i + 1)) (i + 1)
+  pub bodies-more : (n i : ℕ) → i < n → bodies (n - i) i ≡ map (encode (typeInfo edition-one (typeCount lib))) (typeOf s lib i) ▸ bodies (n - (i + 1)) (i + 1)
   unfolding layAll typesFrom
   bodies-more n i h = let e : n - i ≡ suc (n - (i + 1)) = omega arith in rw e
 

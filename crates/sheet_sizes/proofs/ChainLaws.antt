@@ -17,7 +17,7 @@ use Rattle.cursors.specs.Cursors.{yielded, ended}
 use Rattle.impltypes.specs.declared.ImplTypeCursor.{ImplTypeCursor}
 use Rattle.impltypes.specs.Chain.{referenceAt, onext, implTypeStep, implTypeStepFrom, placeAt, walkOf}
 use Rattle.impltypes.specs.ChainLaws.{place-is, step-is, Stands, stands, stands-more, stands-last, stands-round}
-use Rattle.impltypes.specs.Tabulate.{tabulate}
+use Rattle.typelib.specs.Tabulate.{tabulate}
 use Rattle.description.specs.Format.{Format, encode, joined}
 use Rattle.description.specs.Sheet.{edition-one, implType}
 use Rattle.describe.specs.Types.{implTypeAt}

@@ -15,6 +15,7 @@ use Rattle.records.specs.Answer.{Answer, value, refused, map}
 use Rattle.records.specs.Layout.{sizeOf, arrayDesc}
 use Rattle.records.specs.Record.{bitsOf}
 use Rattle.typelib.specs.declared.TypeLib.{TypeLib}
+use Rattle.typelib.specs.Header.{typeCount}
 use Rattle.typelib.specs.Tables.{lent, negative}
 use Rattle.typelib.specs.References.{internalIndex, cleared}
 use Rattle.description.specs.Format.{encode, opt, joined, leBytes}
@@ -36,7 +37,7 @@ optPart w (some bs) = 1 ∷ (leBytes w (length bs) ++ bs)
 -- ---- references
 
 unfoldable pub referenceBytes : TypeLib → Reference → Bytes
-referenceBytes lib r = encode (reference edition-one (lib .count)) r
+referenceBytes lib r = encode (reference edition-one (typeCount lib)) r
 
 unfoldable pub internalBytes : ℕ → ℕ → Bytes
 internalBytes bit index = 1 ∷ (leBytes 1 bit ++ leBytes 2 index)
@@ -87,7 +88,7 @@ headBytes s lib (value (type.Base vt)) = 1 ∷ leBytes 2 vt
 headBytes s lib (value (type.Pointer x)) = 2 ∷ []
 headBytes s lib (value (type.SafeArray x)) = 3 ∷ []
 headBytes s lib (value (type.CArray d)) = arrayBytes s (d .at)
-headBytes s lib (value (type.UserDefined x)) = 5 ∷ encode (reference edition-one (lib .count)) (referenceOf s lib (ofZ w32 x))
+headBytes s lib (value (type.UserDefined x)) = 5 ∷ encode (reference edition-one (typeCount lib)) (referenceOf s lib (ofZ w32 x))
 headBytes s lib (refused n) = 0 ∷ []
 
 -- the type field of the tree under it

@@ -14,6 +14,7 @@ use Rattle.utf8.specs.Utf8.{utf8}
 use Rattle.records.specs.Counted.{impFileSize, textOf, textAt}
 use Rattle.records.specs.Record.{limit, recordPlace, partOf}
 use Rattle.typelib.specs.declared.TypeLib.{TypeLib}
+use Rattle.typelib.specs.Header.{typeCount}
 use Rattle.table_cursors.specs.declared.iterators.GuidCursor.{GuidCursor}
 use Rattle.table_cursors.specs.declared.iterators.ImportCursor.{ImportCursor}
 use Rattle.table_cursors.specs.declared.iterators.ImpFileCursor.{ImpFileCursor}
@@ -35,13 +36,13 @@ module _ (s : List ℕ) (lib : TypeLib) (c : TypeInfoCursor) where
   unfolding typeinfoStep
   typeinfos-long h = rw (lt-ltb limit (length s) h)
 
-  pub typeinfos-end : length s ≤ limit → lib .count ≤ c .index → ended 9 c ≡ typeinfoStep s lib c
+  pub typeinfos-end : length s ≤ limit → typeCount lib ≤ c .index → ended 9 c ≡ typeinfoStep s lib c
   unfolding typeinfoStep
-  typeinfos-end h k = rw (le-ltb limit (length s) h, le-leb (lib .count) (c .index) k)
+  typeinfos-end h k = rw (le-ltb limit (length s) h, le-leb (typeCount lib) (c .index) k)
 
-  pub typeinfos-next : (a : Answer Place) → length s ≤ limit → c .index < lib .count → a ≡ typeinfoOf s lib (c .index) → typeinfoStepFrom c a ≡ typeinfoStep s lib c
+  pub typeinfos-next : (a : Answer Place) → length s ≤ limit → c .index < typeCount lib → a ≡ typeinfoOf s lib (c .index) → typeinfoStepFrom c a ≡ typeinfoStep s lib c
   unfolding typeinfoStep
-  typeinfos-next a h k e = rw (le-ltb limit (length s) h, lt-leb (lib .count) (c .index) k) (ap (typeinfoStepFrom c) e)
+  typeinfos-next a h k e = rw (le-ltb limit (length s) h, lt-leb (typeCount lib) (c .index) k) (ap (typeinfoStepFrom c) e)
 
 -- ---- import files
 

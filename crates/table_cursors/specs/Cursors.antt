@@ -13,6 +13,7 @@ use Rattle.records.specs.Counted.{impFileSize, textAt}
 use Rattle.records.specs.Layout.{sizeOf, offsetOf, guidEntry, impInfo, impFile}
 use Rattle.records.specs.Record.{limit}
 use Rattle.typelib.specs.declared.TypeLib.{TypeLib}
+use Rattle.typelib.specs.Header.{typeCount}
 use Rattle.cursors.specs.Cursors.{Step, yielded, ended, stepBy, fixedAt}
 use Rattle.table_cursors.specs.declared.iterators.GuidCursor.{GuidCursor}
 use Rattle.table_cursors.specs.declared.iterators.ImportCursor.{ImportCursor}
@@ -64,13 +65,13 @@ impFileStep s c = impFileStepFrom c (lent s (impFileEntry s (c .pos) (c .end)))
 -- ---- tables from their start to their end; a missing one is empty
 
 abbrev pub guidsOf : List ℕ → TypeLib → GuidCursor
-guidsOf s lib = record { pos = tableOf (segmentOf s lib 5) .at; end = tableOf (segmentOf s lib 5) .at + tableOf (segmentOf s lib 5) .len }
+guidsOf s lib = record { pos = tableOf (segmentOf lib 5) .at; end = tableOf (segmentOf lib 5) .at + tableOf (segmentOf lib 5) .len }
 
 abbrev pub importsOf : List ℕ → TypeLib → ImportCursor
-importsOf s lib = record { pos = tableOf (segmentOf s lib 1) .at; end = tableOf (segmentOf s lib 1) .at + tableOf (segmentOf s lib 1) .len }
+importsOf s lib = record { pos = tableOf (segmentOf lib 1) .at; end = tableOf (segmentOf lib 1) .at + tableOf (segmentOf lib 1) .len }
 
 abbrev pub impFilesOf : List ℕ → TypeLib → ImpFileCursor
-impFilesOf s lib = record { pos = tableOf (segmentOf s lib 2) .at; end = tableOf (segmentOf s lib 2) .at + tableOf (segmentOf s lib 2) .len }
+impFilesOf s lib = record { pos = tableOf (segmentOf lib 2) .at; end = tableOf (segmentOf lib 2) .at + tableOf (segmentOf lib 2) .len }
 
 -- ---- typeinfos
 
@@ -82,7 +83,7 @@ typeinfoStepFrom c (refused n) = ended n (record { index = c .index + 1 })
 unfoldable pub typeinfoStep : List ℕ → TypeLib → TypeInfoCursor → Step TypeInfoCursor
 typeinfoStep s lib c =
     cond (ltb limit (length s)) (ended 1 c)
-    (cond (leb (lib .count) (c .index)) (ended 9 c) (typeinfoStepFrom c (typeinfoOf s lib (c .index))))
+    (cond (leb (typeCount lib) (c .index)) (ended 9 c) (typeinfoStepFrom c (typeinfoOf s lib (c .index))))
 
 -- ---- names
 
@@ -118,7 +119,7 @@ nameStep s c = nameStepFrom c (lent s (nameEntry s c))
 abbrev pub namesOf : List ℕ → TypeLib → NameCursor
 namesOf s lib =
     record {
-      pos = tableOf (segmentOf s lib 7) .at;
-      end = tableOf (segmentOf s lib 7) .at + tableOf (segmentOf s lib 7) .len;
-      start = tableOf (segmentOf s lib 7) .at;
+      pos = tableOf (segmentOf lib 7) .at;
+      end = tableOf (segmentOf lib 7) .at + tableOf (segmentOf lib 7) .len;
+      start = tableOf (segmentOf lib 7) .at;
     }

@@ -1,18 +1,18 @@
 -- The header of a library and its directory of segments (Wine's typelib.h), and what `parse` makes of them (document 01).
 -- Assumes nothing.
 use mathlib.Core.Bool.{cond}
-use mathlib.Core.List.{List, [], _∷_}
-use Prim.Native.Nat.{ℕ, _+_, _*_}
+use mathlib.Core.List.{List, [], _∷_, _++_}
+use Prim.Native.Nat.{ℕ, _+_, _*_, _/_, _%_}
 use Prim.Native.String.{String}
 use lib.Dec.{leb, ltb, eqb}
-use lib.ListN.{length}
+use lib.ListN.{length, getD, replicate}
 use Rattle.util.specs.Read.{le}
 use Rattle.records.specs.Answer.{Answer, value, refused}
 use Rattle.records.specs.Layout.{Layout, _of_, sizeOf, offsetOf, widthOf}
 use Rattle.records.specs.Record.{limit, field, flagSet}
-use Rattle.typelib.specs.declared.Segment.{Segment}
 use Rattle.typelib.specs.declared.TypeLib.{TypeLib}
 use Rattle.typelib.specs.declared.Parsed.{Parsed}
+use Rattle.typelib.specs.Tabulate.{tabulate}
 
 -- MSFT_Header
 abbrev pub header : Layout
@@ -67,11 +67,38 @@ tableAt s = sizeOf header + cond (flagSet helpDllFlag (word "varflags" s)) 4 0
 abbrev pub directoryAt : List ℕ → ℕ
 directoryAt s = tableAt s + 4 * word "nrtypeinfos" s
 
-abbrev pub segmentAt : List ℕ → ℕ → Segment
-segmentAt s at = record { offset = le 4 s at; length = le 4 s (at + widthOf pSeg "offset") }
+-- ---- a library: the fifteen segment pairs, the count and the table start, by value (document 01)
+
+-- the library of thirty-two numbers, as they are lent: 2k and 2k + 1 are the offset and the length of segment k
+abbrev pub library : List ℕ → TypeLib
+library numbers = record { numbers = numbers }
+
+abbrev pub segmentOffset : TypeLib → ℕ → ℕ
+segmentOffset lib k = getD (lib .numbers) (2 * k) 0
+
+abbrev pub segmentLength : TypeLib → ℕ → ℕ
+segmentLength lib k = getD (lib .numbers) (2 * k + 1) 0
+
+-- how many typeinfos it has, and where their offsets start
+abbrev pub typeCount : TypeLib → ℕ
+typeCount lib = getD (lib .numbers) 30 0
+
+abbrev pub tableStart : TypeLib → ℕ
+tableStart lib = getD (lib .numbers) 31 0
+
+-- number i of the pairs: of entry i / 2 of the directory its offset or, behind that, its length
+abbrev pub pairAt : List ℕ → ℕ → ℕ → ℕ
+pairAt s at i = le 4 s (at + sizeOf pSeg * (i / 2) + widthOf pSeg "offset" * (i % 2))
+
+abbrev pub pairsAt : List ℕ → ℕ → List ℕ
+pairsAt s at = tabulate (pairAt s at) 30
+
+-- the pairs, and behind them the count and the table start
+abbrev pub numbersWith : List ℕ → ℕ → ℕ → List ℕ
+numbersWith pairs count table = pairs ++ (count ∷ table ∷ [])
 
 unfoldable pub libraryOf : List ℕ → TypeLib
-libraryOf s = record { count = word "nrtypeinfos" s; table = tableAt s }
+libraryOf s = library (numbersWith (pairsAt s (directoryAt s)) (word "nrtypeinfos" s) (tableAt s))
 
 -- a library, or refusal 1 over-long, 2 short header, 3 wrong magic, 4 bad count, 5 short directory
 unfoldable pub parseOf : List ℕ → Answer TypeLib
@@ -85,7 +112,7 @@ parseOf s =
 
 -- a refusal carries its number and zeros
 abbrev pub noLibrary : TypeLib
-noLibrary = record { count = 0; table = 0 }
+noLibrary = library (replicate 32 0)
 
 abbrev pub parsed : Answer TypeLib → Parsed
 parsed (value lib) = record { number = 0; lib = lib }

@@ -1,4 +1,5 @@
 -- The definitions that the contracts of `typelib` cite, and the laws that callers use of them.
+pub mod Tabulate
 pub mod Header
 pub mod HeaderLaws
 pub mod Tables

@@ -50,7 +50,7 @@ guidPlace s lib offset = tablePlace false s lib 5 offset (sizeOf guid)
 -- ---- a segment's bytes
 
 abbrev pub segmentBytes : List ℕ → TypeLib → ℕ → Answer Place
-segmentBytes s lib k = lent s (bind (segmentOf s lib k) (λ p. recordPlace 0 s (p .at) (p .len)))
+segmentBytes s lib k = lent s (bind (segmentOf lib k) (λ p. recordPlace 0 s (p .at) (p .len)))
 
 -- ---- the library's own name, GUID and help string, by their offsets in the header
 

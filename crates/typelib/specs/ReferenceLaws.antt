@@ -8,6 +8,7 @@ use lib.Dec.{leb, ltb, eqb}
 use borrow.Author.Tests.{le-leb, lt-leb, le-ltb, lt-ltb, eq-eqb, ne-eqb}
 use Rattle.records.specs.Answer.{Answer, value, refused, map}
 use Rattle.typelib.specs.declared.TypeLib.{TypeLib}
+use Rattle.typelib.specs.Header.{typeCount}
 use Rattle.typelib.specs.Tables.{lent}
 use Rattle.typelib.specs.References.{internalIndex, hrefIndex, Resolved, internal, dispatchBit, cleared, importAt, resolvedAt}
 
@@ -25,7 +26,7 @@ module _ (lib : TypeLib) (h : ℕ) where
   unfolding hrefIndex
   href-negative k = rw (le-leb 0x80000000 h k)
 
-  pub href-internal : (a : Answer ℕ) → h < 0x80000000 → h % 4 ≡ 0 → a ≡ internalIndex (lib .count) h → a ≡ hrefIndex lib h
+  pub href-internal : (a : Answer ℕ) → h < 0x80000000 → h % 4 ≡ 0 → a ≡ internalIndex (typeCount lib) h → a ≡ hrefIndex lib h
   unfolding hrefIndex
   href-internal a k z e = rw (lt-leb 0x80000000 h k, eq-eqb (h % 4) 0 z) e
 
@@ -38,7 +39,7 @@ pub low-bits : (h r : ℕ) → r ≡ h / 2 ^ 0 % 2 ^ 2 → r ≡ h % 4
 low-bits h r e = omega arith
 
 module _ (s : List ℕ) (lib : TypeLib) (h : ℕ) where
-  pub resolved-internal : (a : Answer Resolved) → h % 4 ≡ 0 → a ≡ map internal (internalIndex (lib .count) h) → a ≡ resolvedAt s lib h
+  pub resolved-internal : (a : Answer Resolved) → h % 4 ≡ 0 → a ≡ map internal (internalIndex (typeCount lib) h) → a ≡ resolvedAt s lib h
   unfolding resolvedAt
   resolved-internal a z e = rw (eq-eqb (h % 4) 0 z) e
 

@@ -10,6 +10,7 @@ use Rattle.records.specs.Counted.{impFileSize}
 use Rattle.records.specs.Layout.{sizeOf, offsetOf, impFile, impInfo, typeInfoBase}
 use Rattle.records.specs.Record.{flagSet}
 use Rattle.typelib.specs.declared.TypeLib.{TypeLib}
+use Rattle.typelib.specs.Header.{typeCount}
 use Rattle.typelib.specs.Tables.{lent, negative, tablePlace}
 
 -- an import file at an offset of segment 2: its fixed part inside the segment, the whole entry inside the file
@@ -30,7 +31,7 @@ internalIndex count h = cond (ltb (h / sizeOf typeInfoBase) count) (value (h / s
 unfoldable pub hrefIndex : TypeLib → ℕ → Answer ℕ
 hrefIndex lib h =
     cond (negative h) (refused 9)
-    (cond (inThisFile h) (internalIndex (lib .count) h) (refused 9))
+    (cond (inThisFile h) (internalIndex (typeCount lib) h) (refused 9))
 
 -- what a reference comes to: a typeinfo's index, or an import record and the import file it names, if that is there
 pub data Resolved : Type 0 where
@@ -51,7 +52,7 @@ importAt s lib offset =
     (tablePlace true s lib 1 offset (sizeOf impInfo))
 
 unfoldable pub resolvedAt : List ℕ → TypeLib → ℕ → Answer Resolved
-resolvedAt s lib h = cond (inThisFile h) (map internal (internalIndex (lib .count) h)) (importAt s lib (h - h % 4))
+resolvedAt s lib h = cond (inThisFile h) (map internal (internalIndex (typeCount lib) h)) (importAt s lib (h - h % 4))
 
 abbrev pub hrefResolved : List ℕ → TypeLib → ℕ → Answer Resolved
 hrefResolved s lib h = lent s (cond (negative h) (refused 9) (resolvedAt s lib (cleared h)))

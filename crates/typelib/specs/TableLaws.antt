@@ -1,27 +1,27 @@
 -- Laws of `Tables`, a case each. Assumes nothing.
 use mathlib.Core.Path.{_≡_, refl, sym, _∙_, ap}
 use mathlib.Core.Bool.{Bool, true, false, cond, _&&_}
-use mathlib.Core.List.{List}
-use Prim.Native.Nat.{ℕ, _+_, _*_, _^_, _≤_, _<_}
+use mathlib.Core.List.{List, [], _∷_}
+use Prim.Native.Nat.{ℕ, _+_, _*_, _/_, _%_, _^_, _≤_, _<_}
 use native.Mathlib.Nat.{zero-add}
 use native.Mathlib.Omega.{arith}
 use lib.Dec.{leb, ltb, eqb}
-use lib.ListN.{length}
+use lib.ListN.{length, getD, List·getD-append}
+use lib.Seq.{getD-at}
 use borrow.Author.Tests.{le-leb, lt-leb, le-ltb, lt-ltb, eq-eqb, ne-eqb, leb-true, leb-false, ltb-true, ltb-false, eqb-true}
 use lib.IntN.{ℤ}
 use mir.Syntax.{w32}
 use mir.Val.{SFits, toZ, ofZ}
 use mir.ValLaws.{toZ-ofZ}
-use Rattle.util.specs.Read.{cond-elim}
+use Rattle.util.specs.Read.{le, cond-elim}
 use Rattle.records.specs.declared.answer.Place.{Place}
 use Rattle.records.specs.Answer.{Answer, value, refused, map, bind}
-use Rattle.records.specs.Layout.{sizeOf}
 use Rattle.records.specs.RecordLaws.{held-elim}
 use Rattle.records.specs.Record.{limit, held, recordPlace}
-use Rattle.typelib.specs.declared.Segment.{Segment}
 use Rattle.typelib.specs.declared.TypeLib.{TypeLib}
-use Rattle.typelib.specs.Header.{header, signature, word, directoryAt, segmentAt, libraryOf, parseOf}
-use Rattle.typelib.specs.Tables.{lent, segmentPlace, entryAt, segmentOf, inTable, placeIn, tablePlace}
+use Rattle.typelib.specs.Tabulate.{length-tabulate, getD-tabulate}
+use Rattle.typelib.specs.Header.{word, tableAt, directoryAt, segmentOffset, segmentLength, typeCount, pairAt, pairsAt, libraryOf}
+use Rattle.typelib.specs.Tables.{lent, segmentPlace, segmentOf, inTable, placeIn, tablePlace}
 
 -- ---- over-long bytes
 
@@ -35,35 +35,31 @@ lent-fits s a r h e = rw (le-ltb limit (length s) h) e
 
 -- ---- segments
 
-module _ (s : List ℕ) (lib : TypeLib) (k : ℕ) where
-  pub segment-none : 15 ≤ k → refused 9 ≡ segmentOf s lib k
+module _ (lib : TypeLib) (k : ℕ) where
+  pub segment-none : 15 ≤ k → refused 9 ≡ segmentOf lib k
   unfolding segmentOf
   segment-none h = rw (le-leb 15 k h)
 
-  pub segment-short : k < 15 → length s < entryAt lib k + 16 → refused 9 ≡ segmentOf s lib k
+  pub segment-some : (a : Answer Place) → k < 15 → a ≡ segmentPlace (segmentOffset lib k) (segmentLength lib k) → a ≡ segmentOf lib k
   unfolding segmentOf
-  segment-short h l = rw (lt-leb 15 k h, lt-ltb (length s) (entryAt lib k + 16) l)
+  segment-some a h e = rw (lt-leb 15 k h) e
 
-  pub segment-some : (a : Answer Place) → k < 15 → entryAt lib k + 16 ≤ length s → a ≡ segmentPlace (segmentAt s (entryAt lib k)) → a ≡ segmentOf s lib k
-  unfolding segmentOf
-  segment-some a h l e = rw (lt-leb 15 k h, le-ltb (length s) (entryAt lib k + 16) l) e
-
-module _ (e : Segment) where
-  pub segment-offset : 0x80000000 ≤ e .offset → refused 9 ≡ segmentPlace e
+module _ (offset size : ℕ) where
+  pub segment-offset : 0x80000000 ≤ offset → refused 9 ≡ segmentPlace offset size
   unfolding segmentPlace
-  segment-offset h = rw (le-leb 0x80000000 (e .offset) h)
+  segment-offset h = rw (le-leb 0x80000000 offset h)
 
-  pub segment-empty : e .offset < 0x80000000 → e .length ≡ 0 → refused 9 ≡ segmentPlace e
+  pub segment-empty : offset < 0x80000000 → size ≡ 0 → refused 9 ≡ segmentPlace offset size
   unfolding segmentPlace
-  segment-empty h z = rw (lt-leb 0x80000000 (e .offset) h, eq-eqb (e .length) 0 z)
+  segment-empty h z = rw (lt-leb 0x80000000 offset h, eq-eqb size 0 z)
 
-  pub segment-length : e .offset < 0x80000000 → (e .length ≡ 0 → ⊥) → 0x80000000 ≤ e .length → refused 9 ≡ segmentPlace e
+  pub segment-length : offset < 0x80000000 → (size ≡ 0 → ⊥) → 0x80000000 ≤ size → refused 9 ≡ segmentPlace offset size
   unfolding segmentPlace
-  segment-length h z n = rw (lt-leb 0x80000000 (e .offset) h, ne-eqb (e .length) 0 z, le-leb 0x80000000 (e .length) n)
+  segment-length h z n = rw (lt-leb 0x80000000 offset h, ne-eqb size 0 z, le-leb 0x80000000 size n)
 
-  pub segment-there : e .offset < 0x80000000 → (e .length ≡ 0 → ⊥) → e .length < 0x80000000 → value (record { at = e .offset; len = e .length }) ≡ segmentPlace e
+  pub segment-there : offset < 0x80000000 → (size ≡ 0 → ⊥) → size < 0x80000000 → value (record { at = offset; len = size }) ≡ segmentPlace offset size
   unfolding segmentPlace
-  segment-there h z n = rw (lt-leb 0x80000000 (e .offset) h, ne-eqb (e .length) 0 z, lt-leb 0x80000000 (e .length) n)
+  segment-there h z n = rw (lt-leb 0x80000000 offset h, ne-eqb size 0 z, lt-leb 0x80000000 size n)
 
 -- ---- places in a table
 
@@ -136,7 +132,7 @@ found strict s lib k offset size p =
     cond-elim (λ (a : Answer Place). value p ≡ a → Here s size p) (ltb limit (length s)) _ _
     (λ _ e. let z : _≡_ {A = ℕ} 0 1 = cc in absurd (omega arith))
     (λ h e.
-    let f = found-bind strict s (segmentOf s lib k) offset size p e in
+    let f = found-bind strict s (segmentOf lib k) offset size p e in
     record { few = ltb-false limit (length s) h; inside = f .inside; whole = f .whole })
 
 -- ---- signed offsets
@@ -185,51 +181,42 @@ pub record Small (p : Place) : Type 0 where
   pub start : p .at < 2 ^ 31
   pub size : p .len < 2 ^ 31
 
-pub small : (s : List ℕ) (lib : TypeLib) (k : ℕ) (p : Place) → value p ≡ segmentOf s lib k → Small p
+pub small : (lib : TypeLib) (k : ℕ) (p : Place) → value p ≡ segmentOf lib k → Small p
 unfolding segmentOf segmentPlace
-small s lib k p =
+small lib k p =
     let P : Answer Place → Type 0 = λ a. value p ≡ a → Small p in
     let no : P (refused 9) = λ e. let z : _≡_ {A = ℕ} 0 1 = cc in absurd (omega arith) in
-    let e = segmentAt s (entryAt lib k) in
+    let offset : ℕ = segmentOffset lib k in
+    let size : ℕ = segmentLength lib k in
     cond-elim P (leb 15 k) _ _ (λ _. no) (λ _.
-    cond-elim P (ltb (length s) (entryAt lib k + 16)) _ _ (λ _. no) (λ _.
-    cond-elim P (leb 0x80000000 (e .offset)) _ _ (λ _. no) (λ h1.
-    cond-elim P (eqb (e .length) 0) _ _ (λ _. no) (λ _.
-    cond-elim P (leb 0x80000000 (e .length)) _ _ (λ _. no) (λ h2 f.
-    let q : p ≡ record { at = e .offset; len = e .length } = cc in
-    let a : p .at ≡ e .offset = ap (λ (x : Place). x .at) q in
-    let b : p .len ≡ e .length = ap (λ (x : Place). x .len) q in
-    record {
-      start = omega (arith, leb-false 0x80000000 (e .offset) h1);
-      size = omega (arith, leb-false 0x80000000 (e .length) h2);
-    })))))
+    cond-elim P (leb 0x80000000 offset) _ _ (λ _. no) (λ h1.
+    cond-elim P (eqb size 0) _ _ (λ _. no) (λ _.
+    cond-elim P (leb 0x80000000 size) _ _ (λ _. no) (λ h2 f.
+    let q : p ≡ record { at = offset; len = size } = cc in
+    let a : p .at ≡ offset = ap (λ (x : Place). x .at) q in
+    let b : p .len ≡ size = ap (λ (x : Place). x .len) q in
+    record { start = omega (arith, leb-false 0x80000000 offset h1); size = omega (arith, leb-false 0x80000000 size h2) }))))
 
--- ---- the segments of a library that was parsed
+-- ---- the library that `parse` finds in bytes has the numbers of their directory
 
--- its directory is whole
-record Whole (s : List ℕ) (lib : TypeLib) : Type 0 where
-  is : lib ≡ libraryOf s
-  inside : directoryAt s + 240 ≤ length s
-
-whole : (s : List ℕ) (lib : TypeLib) → value lib ≡ parseOf s → Whole s lib
-unfolding parseOf
-whole s lib =
-    let P : Answer TypeLib → Type 0 = λ a. value lib ≡ a → Whole s lib in
-    let no : (n : ℕ) → P (refused n) = λ n e. let z : _≡_ {A = ℕ} 0 1 = cc in absurd (omega arith) in
-    cond-elim P (ltb limit (length s)) _ _ (λ _. no 1) (λ _.
-    cond-elim P (ltb (length s) (sizeOf header)) _ _ (λ _. no 2) (λ _.
-    cond-elim P (eqb (word "magic1" s) signature) _ _
-    (λ _.
-    cond-elim P (leb 0x80000000 (word "nrtypeinfos" s)) _ _ (λ _. no 4) (λ _.
-    cond-elim P (ltb (length s) (directoryAt s + 240)) _ _ (λ _. no 5) (λ d e.
-    let q : lib ≡ libraryOf s = cc in
-    record { is = q; inside = ltb-false (length s) (directoryAt s + 240) d })))
-    (λ _. no 3)))
-
--- segment k is the k-th entry of the directory that `parse` tested, as the Rust has them all read there
-pub parsed-segment : (s : List ℕ) (lib : TypeLib) (k : ℕ) → value lib ≡ parseOf s → k < 15
-    → segmentPlace (segmentAt s (directoryAt s + 16 * k)) ≡ segmentOf s lib k
+pub parsed-count : (s : List ℕ) → typeCount (libraryOf s) ≡ word "nrtypeinfos" s
 unfolding libraryOf
-parsed-segment s lib k e h =
-    let w = whole s lib e in
-    rw (w .is) (segment-some s (libraryOf s) k _ h (omega (arith, w .inside)) refl)
+parsed-count s = getD-at (pairsAt s (directoryAt s)) (word "nrtypeinfos" s) (tableAt s ∷ []) 0 30 (length-tabulate (pairAt s (directoryAt s)) 30)
+
+pub parsed-pair : (s : List ℕ) (i : ℕ) → i < 30 → getD (libraryOf s .numbers) i 0 ≡ pairAt s (directoryAt s) i
+unfolding libraryOf
+parsed-pair s i h =
+    let at : ℕ = directoryAt s in
+    List·getD-append (pairsAt s at) (word "nrtypeinfos" s ∷ tableAt s ∷ []) 0 i (omega (arith, length-tabulate (pairAt s at) 30))
+    ∙ getD-tabulate (pairAt s at) 30 i 0 h
+
+-- segment k is the k-th entry of the directory
+pub parsed-segment : (s : List ℕ) (k : ℕ) → k < 15
+    → segmentOf (libraryOf s) k ≡ segmentPlace (le 4 s (directoryAt s + 16 * k)) (le 4 s (directoryAt s + 16 * k + 4))
+unfolding segmentOf
+parsed-segment s k h =
+    let at : ℕ = directoryAt s in
+    let e : at + 16 * (2 * k / 2) + 4 * (2 * k % 2) ≡ at + 16 * k = omega arith in
+    let f : at + 16 * ((2 * k + 1) / 2) + 4 * ((2 * k + 1) % 2) ≡ at + 16 * k + 4 = omega arith in
+    rw (lt-leb 15 k h) (ap (λ x. segmentPlace x (segmentLength (libraryOf s) k)) (parsed-pair s (2 * k) (omega arith) ∙ ap (λ n. le 4 s n) e)
+    ∙ ap (segmentPlace (le 4 s (at + 16 * k))) (parsed-pair s (2 * k + 1) (omega arith) ∙ ap (λ n. le 4 s n) f))

@@ -2,16 +2,14 @@
 -- Assumes nothing.
 use mathlib.Core.Bool.{Bool, true, cond, _&&_}
 use mathlib.Core.List.{List}
-use Prim.Native.Nat.{ℕ, _+_, _*_}
+use Prim.Native.Nat.{ℕ, _+_}
 use lib.Dec.{leb, ltb, eqb}
 use lib.ListN.{length}
 use Rattle.records.specs.declared.answer.Place.{Place}
 use Rattle.records.specs.Answer.{Answer, value, refused, map, bind}
-use Rattle.records.specs.Layout.{sizeOf}
 use Rattle.records.specs.Record.{limit}
-use Rattle.typelib.specs.declared.Segment.{Segment}
 use Rattle.typelib.specs.declared.TypeLib.{TypeLib}
-use Rattle.typelib.specs.Header.{pSeg, segmentAt}
+use Rattle.typelib.specs.Header.{segmentOffset, segmentLength}
 
 -- bytes above the limit are 1 to every entry
 unfoldable pub lent : {A : Type 0} → List ℕ → Answer A → Answer A
@@ -22,22 +20,16 @@ abbrev pub negative : ℕ → Bool
 negative n = leb 0x80000000 n
 
 -- a segment with a negative offset or a length below 1 is missing
-unfoldable pub segmentPlace : Segment → Answer Place
-segmentPlace e =
-    cond (negative (e .offset)) (refused 9)
-    (cond (eqb (e .length) 0) (refused 9)
-    (cond (negative (e .length)) (refused 9)
-    (value (record { at = e .offset; len = e .length }))))
+unfoldable pub segmentPlace : ℕ → ℕ → Answer Place
+segmentPlace offset size =
+    cond (negative offset) (refused 9)
+    (cond (eqb size 0) (refused 9)
+    (cond (negative size) (refused 9)
+    (value (record { at = offset; len = size }))))
 
--- entry k of the directory, behind one offset a typeinfo
-abbrev pub entryAt : TypeLib → ℕ → ℕ
-entryAt lib k = lib .table + 4 * lib .count + sizeOf pSeg * k
-
--- segment k: missing, too, where its entry is not inside the bytes
-unfoldable pub segmentOf : List ℕ → TypeLib → ℕ → Answer Place
-segmentOf s lib k =
-    cond (leb 15 k) (refused 9)
-    (cond (ltb (length s) (entryAt lib k + sizeOf pSeg)) (refused 9) (segmentPlace (segmentAt s (entryAt lib k))))
+-- WHERE SEGMENT k LIES, by the library's own numbers
+unfoldable pub segmentOf : TypeLib → ℕ → Answer Place
+segmentOf lib k = cond (leb 15 k) (refused 9) (segmentPlace (segmentOffset lib k) (segmentLength lib k))
 
 -- What bounds a table: the file's end, and in a strict place (an import, the fixed part of an import file) also the
 -- segment's. `end` is counted from the table's start.
@@ -52,7 +44,7 @@ placeIn strict s table offset size =
 
 -- the same of the table in segment k: 9 where it is missing
 abbrev pub tablePlace : Bool → List ℕ → TypeLib → ℕ → ℕ → ℕ → Answer Place
-tablePlace strict s lib k offset size = lent s (bind (segmentOf s lib k) (λ table. placeIn strict s table offset size))
+tablePlace strict s lib k offset size = lent s (bind (segmentOf lib k) (λ table. placeIn strict s table offset size))
 
 abbrev pub tableOf : Answer Place → Place
 tableOf (value p) = p

@@ -1,6 +1,5 @@
 -- What each answer tells: its value, or the number of the refusal (document 01). A record that was answered is its place.
 use Prim.Native.Nat.{ℕ}
-use lib.IntN.{ℤ}
 use Rattle.records.specs.declared.answer.Place.{Place}
 use Rattle.records.specs.Answer.{Answer, value, refused}
 use Rattle.typelib.specs.declared.typeinfos.Counts.{Counts}
@@ -32,7 +31,7 @@ abbrev pub toldCounts : CountsAnswer → Answer Counts
 toldCounts (counts.Value c) = value c
 toldCounts (counts.Refused n) = refused n
 
-abbrev pub toldOffset : OffsetAnswer → Answer ℤ
+abbrev pub toldOffset : OffsetAnswer → Answer ℕ
 toldOffset (offset.Value o) = value (o .0)
 toldOffset (offset.Refused n) = refused n
 

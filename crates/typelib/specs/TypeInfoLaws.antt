@@ -12,6 +12,7 @@ use Rattle.util.specs.Read.{read, read-none}
 use Rattle.records.specs.declared.answer.Place.{Place}
 use Rattle.records.specs.Answer.{Answer, value, refused, map, bind, orNine}
 use Rattle.typelib.specs.declared.TypeLib.{TypeLib}
+use Rattle.typelib.specs.Header.{typeCount, tableStart}
 use Rattle.typelib.specs.Tables.{segmentOf, placeIn}
 use Rattle.typelib.specs.TypeInfos.{refusing, offsetWord, typeinfoIn, blockAt, auxWord, auxIn}
 
@@ -26,20 +27,20 @@ refusing-refused n m a e = ap (refusing n) e
 -- ---- the offset table
 
 module _ (s : List ℕ) (lib : TypeLib) (index : ℕ) where
-  pub word-beyond : lib .count ≤ index → refused 9 ≡ offsetWord s lib index
+  pub word-beyond : typeCount lib ≤ index → refused 9 ≡ offsetWord s lib index
   unfolding offsetWord
-  word-beyond h = rw (le-leb (lib .count) index h)
+  word-beyond h = rw (le-leb (typeCount lib) index h)
 
-  pub word-read : (a : Option ℕ) → index < lib .count → a ≡ read 4 s (lib .table + 4 * index) → orNine a ≡ offsetWord s lib index
+  pub word-read : (a : Option ℕ) → index < typeCount lib → a ≡ read 4 s (tableStart lib + 4 * index) → orNine a ≡ offsetWord s lib index
   unfolding offsetWord
-  word-read a h e = rw (lt-leb (lib .count) index h) (ap orNine e)
+  word-read a h e = rw (lt-leb (typeCount lib) index h) (ap orNine e)
 
 module _ (s : List ℕ) (lib : TypeLib) (offset : ℕ) where
   pub typeinfo-negative : 0x80000000 ≤ offset → refused 6 ≡ typeinfoIn s lib offset
   unfolding typeinfoIn
   typeinfo-negative h = rw (le-leb 0x80000000 offset h)
 
-  pub typeinfo-in : (a : Answer Place) → offset < 0x80000000 → a ≡ bind (refusing 7 (segmentOf s lib 0)) (λ table. refusing 8 (placeIn false s table offset 100)) → a ≡ typeinfoIn s lib offset
+  pub typeinfo-in : (a : Answer Place) → offset < 0x80000000 → a ≡ bind (refusing 7 (segmentOf lib 0)) (λ table. refusing 8 (placeIn false s table offset 100)) → a ≡ typeinfoIn s lib offset
   unfolding typeinfoIn
   typeinfo-in a h e = rw (lt-leb 0x80000000 offset h) e
 

@@ -13,6 +13,7 @@ use Rattle.records.specs.Answer.{Answer, value, refused, map, bind, orNine}
 use Rattle.records.specs.Layout.{sizeOf, typeInfoBase}
 use Rattle.records.specs.Record.{field, signed32, bitsOf}
 use Rattle.typelib.specs.declared.TypeLib.{TypeLib}
+use Rattle.typelib.specs.Header.{typeCount, tableStart}
 use Rattle.typelib.specs.declared.typeinfos.Counts.{Counts}
 use Rattle.typelib.specs.Tables.{lent, negative, segmentOf, placeIn}
 use Rattle.typelib.specs.Names.{nameText}
@@ -26,7 +27,7 @@ refusing n (refused m) = refused n
 
 -- the word of the offset table for a typeinfo: 9 where there is no such typeinfo or no such word
 unfoldable pub offsetWord : List ℕ → TypeLib → ℕ → Answer ℕ
-offsetWord s lib index = cond (leb (lib .count) index) (refused 9) (orNine (read 4 s (lib .table + 4 * index)))
+offsetWord s lib index = cond (leb (typeCount lib) index) (refused 9) (orNine (read 4 s (tableStart lib + 4 * index)))
 
 abbrev pub typeinfoOffset : List ℕ → TypeLib → ℕ → Answer ℕ
 typeinfoOffset s lib index = lent s (offsetWord s lib index)
@@ -36,7 +37,7 @@ typeinfoOffset s lib index = lent s (offsetWord s lib index)
 unfoldable pub typeinfoIn : List ℕ → TypeLib → ℕ → Answer Place
 typeinfoIn s lib offset =
     cond (negative offset) (refused 6)
-    (bind (refusing 7 (segmentOf s lib 0)) (λ table.
+    (bind (refusing 7 (segmentOf lib 0)) (λ table.
     refusing 8 (placeIn false s table offset (sizeOf typeInfoBase))))
 
 -- 6 where the index is not below the count, or its word not inside the bytes

@@ -1,5 +1,7 @@
 // Type descriptors and array descriptors, by their offset in a table.
+use crate::Numbers;
 use crate::TypeLib;
+use crate::tables;
 use records::answer::PlaceAnswer;
 use records::arraydesc::ArrayDesc;
 use records::field::LIMIT;
@@ -10,6 +12,7 @@ ghost use Prim.Native.Nat.{_<_};
 ghost use mir.Syntax.{w32};
 ghost use mir.Val.{ofZ};
 ghost use Rattle.typelib.specs.Descriptors.{typeDescAt, arrayDescAt, descriptionOf, typeDescription};
+ghost use Rattle.typelib.specs.Header.{library};
 ghost use Rattle.typelib.specs.Tables.{lent};
 ghost use Rattle.typelib.specs.Told.{toldPair, toldArrayDesc, toldDescription};
 
@@ -43,90 +46,92 @@ impl TypeLib {
     pub fn type_desc(self, s: &[u8], offset: i32) -> PairAnswer
         ensures { λ r. ⌜ toldPair r ≡ typeDescAt (now (s .entry)) self (ofZ w32 offset) ⌝ }
     {
-        self.type_desc_at(s, util::unsigned32(offset))
-    }
-
-    pub fn type_desc_at(self, s: &[u8], offset: u32) -> PairAnswer
-        ensures { λ r. ⌜ toldPair r ≡ typeDescAt (now (s .entry)) self offset ⌝ }
-    {
-        match self.table_place(s, TYPE_TABLE, offset, 8, false) {
-            PlaceAnswer::Value(place) => {
-                let at = place.at;
-                let first = util::u32_or_zero(s, at);
-                let second = util::u32_or_zero(s, at + 4);
-                PairAnswer::Value(WordPair { first, second })
-            }
-            PlaceAnswer::Refused(n) => PairAnswer::Refused(n),
-        }
+        type_desc_at(&self.numbers, s, util::unsigned32(offset))
     }
 
     // The array descriptor at an offset, with its bounds.
     pub fn array_desc(self, s: &[u8], offset: i32) -> ArrayDescAnswer
         ensures { λ r. ⌜ toldArrayDesc r ≡ arrayDescAt (now (s .entry)) self (ofZ w32 offset) ⌝ }
     {
-        self.array_desc_at(s, util::unsigned32(offset))
-    }
-
-    pub fn array_desc_at(self, s: &[u8], offset: u32) -> ArrayDescAnswer
-        ensures { λ r. ⌜ toldArrayDesc r ≡ arrayDescAt (now (s .entry)) self offset ⌝ }
-    {
-        match self.table_place(s, ARRAY_TABLE, offset, 8, false) {
-            PlaceAnswer::Value(head) => {
-                let dimensions = util::u16_or_zero(s, head.at + 4) as usize;
-                match self.table_place(s, ARRAY_TABLE, offset, 8 + 8 * dimensions, false) {
-                    PlaceAnswer::Value(place) => ArrayDescAnswer::Value(ArrayDesc {
-                        at: place.at,
-                        len: place.len,
-                    }),
-                    PlaceAnswer::Refused(n) => ArrayDescAnswer::Refused(n),
-                }
-            }
-            PlaceAnswer::Refused(n) => ArrayDescAnswer::Refused(n),
-        }
+        array_desc_at(&self.numbers, s, util::unsigned32(offset))
     }
 
     // What a type field names, one level of it.
     pub fn type_description(self, s: &[u8], datatype: i32) -> DescriptionAnswer
         ensures { λ r. ⌜ toldDescription r ≡ lent (now (s .entry)) (typeDescription (now (s .entry)) self (ofZ w32 datatype)) ⌝ }
     {
-        self.type_description_at(s, util::unsigned32(datatype))
+        type_description_at(&self.numbers, s, util::unsigned32(datatype))
     }
+}
 
-    pub fn type_description_at(self, s: &[u8], field: u32) -> DescriptionAnswer
-        ensures { λ r. ⌜ toldDescription r ≡ lent (now (s .entry)) (typeDescription (now (s .entry)) self field) ⌝ }
-    {
-        if LIMIT < s.len() {
-            return DescriptionAnswer::Refused(1);
+// The same by the 32-bit pattern of its offset.
+pub fn type_desc_at(lib: &Numbers, s: &[u8], offset: u32) -> PairAnswer
+    ensures { λ r. ⌜ toldPair r ≡ typeDescAt (now (s .entry)) (library (now (lib .entry))) offset ⌝ }
+{
+    match tables::table_place(lib, s, TYPE_TABLE, offset, 8, false) {
+        PlaceAnswer::Value(place) => {
+            let at = place.at;
+            let first = util::u32_or_zero(s, at);
+            let second = util::u32_or_zero(s, at + 4);
+            PairAnswer::Value(WordPair { first, second })
         }
-        if NEGATIVE <= field {
-            let code = util::bits(field, 0, 12) as u16;
-            return DescriptionAnswer::Value(TypeDescription::Base(code));
-        }
-        match self.type_desc_at(s, field) {
-            PairAnswer::Value(words) => {
-                let code = util::bits(words.first, 0, 12);
-                self.description_of(s, code, words.second)
+        PlaceAnswer::Refused(n) => PairAnswer::Refused(n),
+    }
+}
+
+// The same by the 32-bit pattern of its offset.
+pub fn array_desc_at(lib: &Numbers, s: &[u8], offset: u32) -> ArrayDescAnswer
+    ensures { λ r. ⌜ toldArrayDesc r ≡ arrayDescAt (now (s .entry)) (library (now (lib .entry))) offset ⌝ }
+{
+    match tables::table_place(lib, s, ARRAY_TABLE, offset, 8, false) {
+        PlaceAnswer::Value(head) => {
+            let dimensions = util::u16_or_zero(s, head.at + 4) as usize;
+            match tables::table_place(lib, s, ARRAY_TABLE, offset, 8 + 8 * dimensions, false) {
+                PlaceAnswer::Value(place) => ArrayDescAnswer::Value(ArrayDesc {
+                    at: place.at,
+                    len: place.len,
+                }),
+                PlaceAnswer::Refused(n) => ArrayDescAnswer::Refused(n),
             }
-            PairAnswer::Refused(n) => DescriptionAnswer::Refused(n),
         }
+        PlaceAnswer::Refused(n) => ArrayDescAnswer::Refused(n),
     }
+}
 
-    // By the code of an entry and its second word.
-    fn description_of(self, s: &[u8], code: u32, second: u32) -> DescriptionAnswer
-        requires { ⌜ code < 4096 ⌝ }
-        ensures { λ r. ⌜ toldDescription r ≡ descriptionOf (now (s .entry)) self code second ⌝ }
-    {
-        match code {
-            26 => DescriptionAnswer::Value(TypeDescription::Pointer(util::signed32(second))),
-            27 => DescriptionAnswer::Value(TypeDescription::SafeArray(util::signed32(second))),
-            28 => match self.array_desc_at(s, util::bits(second, 0, 16)) {
-                ArrayDescAnswer::Value(array) => {
-                    DescriptionAnswer::Value(TypeDescription::CArray(array))
-                }
-                ArrayDescAnswer::Refused(n) => DescriptionAnswer::Refused(n),
-            },
-            29 => DescriptionAnswer::Value(TypeDescription::UserDefined(util::signed32(second))),
-            _ => DescriptionAnswer::Value(TypeDescription::Base(code as u16)),
+fn type_description_at(lib: &Numbers, s: &[u8], field: u32) -> DescriptionAnswer
+    ensures { λ r. ⌜ toldDescription r ≡ lent (now (s .entry)) (typeDescription (now (s .entry)) (library (now (lib .entry))) field) ⌝ }
+{
+    if LIMIT < s.len() {
+        return DescriptionAnswer::Refused(1);
+    }
+    if NEGATIVE <= field {
+        let code = util::bits(field, 0, 12) as u16;
+        return DescriptionAnswer::Value(TypeDescription::Base(code));
+    }
+    match type_desc_at(lib, s, field) {
+        PairAnswer::Value(words) => {
+            let code = util::bits(words.first, 0, 12);
+            description_of(lib, s, code, words.second)
         }
+        PairAnswer::Refused(n) => DescriptionAnswer::Refused(n),
+    }
+}
+
+// By the code of an entry and its second word.
+fn description_of(lib: &Numbers, s: &[u8], code: u32, second: u32) -> DescriptionAnswer
+    requires { ⌜ code < 4096 ⌝ }
+    ensures { λ r. ⌜ toldDescription r ≡ descriptionOf (now (s .entry)) (library (now (lib .entry))) code second ⌝ }
+{
+    match code {
+        26 => DescriptionAnswer::Value(TypeDescription::Pointer(util::signed32(second))),
+        27 => DescriptionAnswer::Value(TypeDescription::SafeArray(util::signed32(second))),
+        28 => match array_desc_at(lib, s, util::bits(second, 0, 16)) {
+            ArrayDescAnswer::Value(array) => {
+                DescriptionAnswer::Value(TypeDescription::CArray(array))
+            }
+            ArrayDescAnswer::Refused(n) => DescriptionAnswer::Refused(n),
+        },
+        29 => DescriptionAnswer::Value(TypeDescription::UserDefined(util::signed32(second))),
+        _ => DescriptionAnswer::Value(TypeDescription::Base(code as u16)),
     }
 }

@@ -10,7 +10,7 @@ ghost use mathlib.Core.Path.{_≡_};
 ghost use Rattle.records.specs.Answer.{map};
 ghost use Rattle.records.specs.Record.{signed32, bitsOf, flagSet};
 ghost use Rattle.records.specs.Told.{toldBool, toldI32, toldU16, toldU32, toldU8};
-ghost use Rattle.typelib.specs.Header.{headerField, helpDllFlag};
+ghost use Rattle.typelib.specs.Header.{headerField, helpDllFlag, typeCount};
 
 impl TypeLib {
     // The word behind the magic.
@@ -88,9 +88,9 @@ impl TypeLib {
 
     // How many typeinfos the library has.
     pub fn typeinfo_count(self) -> usize
-        ensures { λ r. ⌜ r ≡ self .count ⌝ }
+        ensures { λ r. ⌜ r ≡ typeCount self ⌝ }
     {
-        self.count as usize
+        self.count() as usize
     }
 
     // The offset of its help string in the string table; -1 where it has none.

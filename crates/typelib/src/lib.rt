@@ -1,41 +1,37 @@
 // A type library and its tables: typelib.rs of the source.
 //
-// A library is the count of its typeinfos and the start of their offset table, by value, beside the lent
-// bytes; where a segment lies is read from its directory, behind that table. Beside other bytes it is read by
-// its own numbers, with the same checks.
+// A library is its fifteen segment pairs, the count of its typeinfos and the start of their offset table, by value,
+// beside the lent bytes. Beside other bytes it is read by its own numbers, with the same checks. Every public reading
+// takes it so. Below the entries its numbers are lent, as a reference to a plain array: nothing of it is copied there.
 pub mod descriptors;
 mod header;
-mod names;
+pub mod names;
 pub mod references;
+pub mod tables;
 pub mod typeinfos;
 
-use records::answer::Place;
 use records::answer::PlaceAnswer;
 use records::field::LIMIT;
 use util::NEGATIVE;
 ghost use mathlib.Core.Path.{_≡_};
-ghost use Prim.Native.Nat.{_+_, _^_, _≤_, _<_};
-ghost use lib.Dec.{leb};
+ghost use Prim.Native.Nat.{_+_, _≤_};
 ghost use lib.ListN.{length};
 ghost use Rattle.records.specs.Told.{toldPlace};
-ghost use Rattle.typelib.specs.Header.{tableAt, segmentAt, parseOf, parsed};
-ghost use Rattle.typelib.specs.Tables.{segmentOf, inTable, placeIn, tablePlace, tableOf};
+ghost use Rattle.typelib.specs.Header.{tableAt, typeCount, tableStart, pairsAt, numbersWith, parseOf, parsed};
+ghost use Rattle.typelib.specs.Tables.{segmentOf};
 ghost use Rattle.records.specs.Answer.{refused};
 
-// A segment's file offset and length, each the 32-bit pattern of a signed number.
-pub struct Segment {
-    pub offset: u32,
-    pub length: u32,
-}
+// 2k and 2k + 1 are the offset and the length of segment k, each the 32-bit pattern of a signed number; 30 is the count of
+// typeinfos, 31 where their offsets start.
+pub type Numbers = [u32; 32];
 
 pub struct TypeLib {
-    pub count: u32,
-    pub table: u32,
+    pub numbers: Numbers,
 }
 
-// The three kinds of number that the source tells apart in its comments: a typeinfo's byte offset in
-// segment 0, its index, and a byte offset in the import segment.
-pub struct TypeInfoOffset(pub i32);
+// The three kinds of number that the source tells apart in its comments: a typeinfo's byte offset in segment 0 (the 32-bit
+// pattern of a signed number), its index, and a byte offset in the import segment.
+pub struct TypeInfoOffset(pub u32);
 
 pub struct TypeInfoIndex(pub usize);
 
@@ -48,7 +44,7 @@ pub struct Parsed {
 }
 
 // Where the offset table starts.
-fn table_start(s: &[u8]) -> u32
+fn table_at(s: &[u8]) -> u32
     requires { ⌜ 84 ≤ length (now s) ⌝ }
     ensures { λ r. ⌜ (r ≡ tableAt (now (s .entry))) × (r ≤ 88) ⌝ }
 {
@@ -59,23 +55,30 @@ fn table_start(s: &[u8]) -> u32
     }
 }
 
-fn segment_entry(s: &[u8], at: usize) -> Segment
-    requires { ⌜ at + 16 ≤ length (now s) ⌝ }
-    ensures { λ r. ⌜ r ≡ segmentAt (now (s .entry)) at ⌝ }
+// The pairs of the directory at `at`, the count and the table start. (Each word is read from a part of just its four bytes: then the
+// compiler makes a plain load of it.)
+fn numbers_at(s: &[u8], at: usize, count: u32, table: u32) -> Numbers
+    requires { ⌜ at + 240 ≤ length (now s) ⌝ }
+    ensures { λ r. ⌜ r ≡ numbersWith (pairsAt (now (s .entry)) at) count table ⌝ }
 {
-    let entry = &s[at..at + 16];
-    let offset = util::u32_or_zero(entry, 0);
-    let length = util::u32_or_zero(entry, 4);
-    Segment { offset, length }
+    let mut numbers = [0u32; 32];
+    let mut i: usize = 0;
+    while i < 30 {
+        let from = at + 16 * (i / 2) + 4 * (i % 2);
+        let word = &s[from..from + 4];
+        numbers[i] = util::u32_or_zero(word, 0);
+        i += 1;
+    }
+    numbers[30] = count;
+    numbers[31] = table;
+    numbers
 }
 
 fn refusal(number: u8) -> Parsed
     ensures { λ r. ⌜ r ≡ parsed (refused number) ⌝ }
 {
-    Parsed {
-        number,
-        lib: TypeLib { count: 0, table: 0 },
-    }
+    let lib = TypeLib { numbers: [0; 32] };
+    Parsed { number, lib }
 }
 
 impl TypeLib {
@@ -101,117 +104,34 @@ impl TypeLib {
         if NEGATIVE <= count {
             return refusal(4);
         }
-        let table = table_start(s);
+        let table = table_at(s);
         let at = table as usize + 4 * (count as usize);
         if size < at + 240 {
             return refusal(5);
         }
-        let lib = TypeLib { count, table };
+        let numbers = numbers_at(s, at, count, table);
+        let lib = TypeLib { numbers };
         Parsed { number: 0, lib }
     }
 
     // Where segment `index` lies; 9 where it is missing.
-    pub fn segment(self, s: &[u8], index: usize) -> PlaceAnswer
-        ensures { λ r. ⌜ toldPlace r ≡ segmentOf (now (s .entry)) self index ⌝ }
+    pub fn segment(self, index: usize) -> PlaceAnswer
+        ensures { λ r. ⌜ toldPlace r ≡ segmentOf self index ⌝ }
     {
-        if 15 <= index {
-            return PlaceAnswer::Refused(9);
-        }
-        let at = self.table as usize + 4 * (self.count as usize) + 16 * index;
-        if s.len() < at + 16 {
-            return PlaceAnswer::Refused(9);
-        }
-        let e = segment_entry(s, at);
-        let offset = e.offset;
-        let length = e.length;
-        if NEGATIVE <= offset {
-            return PlaceAnswer::Refused(9);
-        }
-        if length == 0 {
-            return PlaceAnswer::Refused(9);
-        }
-        if NEGATIVE <= length {
-            return PlaceAnswer::Refused(9);
-        }
-        PlaceAnswer::Value(Place {
-            at: offset as usize,
-            len: length as usize,
-        })
+        tables::segment(&self.numbers, index)
     }
 
-    // A segment's place, or an empty one at the start of the file where it is missing.
-    pub fn table(self, s: &[u8], index: usize) -> Place
-        ensures { λ r. ⌜ (r ≡ tableOf (segmentOf (now (s .entry)) self index)) × (r .at + r .len < 2 ^ 32) ⌝ }
+    // How many typeinfos it has.
+    pub fn count(self) -> u32
+        ensures { λ r. ⌜ r ≡ typeCount self ⌝ }
     {
-        match self.segment(s, index) {
-            PlaceAnswer::Value(place) => place,
-            PlaceAnswer::Refused(_) => Place { at: 0, len: 0 },
-        }
+        tables::count(&self.numbers)
     }
 
-    // The one way to each table: where the `size` bytes at `offset` of segment `index` lie.
-    pub fn table_place(
-        self,
-        s: &[u8],
-        index: usize,
-        offset: u32,
-        size: usize,
-        strict: bool,
-    ) -> PlaceAnswer
-        ensures { λ r. ⌜ toldPlace r ≡ tablePlace strict (now (s .entry)) self index offset size ⌝ }
+    // Where the offsets of its typeinfos start.
+    pub fn table_start(self) -> u32
+        ensures { λ r. ⌜ r ≡ tableStart self ⌝ }
     {
-        if LIMIT < s.len() {
-            return PlaceAnswer::Refused(1);
-        }
-        match self.segment(s, index) {
-            PlaceAnswer::Value(table) => place_in(s, table, offset, size, strict),
-            PlaceAnswer::Refused(n) => PlaceAnswer::Refused(n),
-        }
+        tables::table_start(&self.numbers)
     }
-}
-
-// Where the `size` bytes at `offset` of a table lie.
-pub fn place_in(s: &[u8], table: Place, offset: u32, size: usize, strict: bool) -> PlaceAnswer
-    ensures { λ r. ⌜ toldPlace r ≡ placeIn strict (now (s .entry)) table offset size ⌝ }
-{
-    if NEGATIVE <= offset {
-        return PlaceAnswer::Refused(9);
-    }
-    let from = offset as usize;
-    if in_table(s, table, from, size, strict) {
-        return PlaceAnswer::Value(Place {
-            at: table.at + from,
-            len: size,
-        });
-    }
-    PlaceAnswer::Refused(9)
-}
-
-// Whether the `size` bytes at `from` of a table end inside what bounds it.
-fn in_table(s: &[u8], table: Place, from: usize, size: usize, strict: bool) -> bool
-    ensures { λ r. ⌜ r ≡ inTable strict (now (s .entry)) table (from + size) ⌝ }
-{
-    if reaches(s.len(), table.at, from, size) {
-        if strict {
-            return reaches(table.len, 0, from, size);
-        }
-        return true;
-    }
-    false
-}
-
-// Whether the `size` bytes at `from` behind `at` end by `end`. No sum is made that could wrap.
-fn reaches(end: usize, at: usize, from: usize, size: usize) -> bool
-    ensures { λ r. ⌜ r ≡ leb (at + (from + size)) end ⌝ }
-{
-    if end < at {
-        return false;
-    }
-    if end - at < from {
-        return false;
-    }
-    if end - at - from < size {
-        return false;
-    }
-    true
 }

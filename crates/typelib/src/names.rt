@@ -1,8 +1,10 @@
 // Names, strings and GUIDs, by their offset in a table.
 //
 // A public reading takes the offset as the signed number that a record holds; the `_at` functions
-// take its 32-bit pattern.
+// take its 32-bit pattern, and the library's numbers lent.
+use crate::Numbers;
 use crate::TypeLib;
+use crate::tables;
 use records::answer;
 use records::answer::I32Answer;
 use records::answer::Place;
@@ -16,6 +18,7 @@ ghost use mir.Syntax.{w32};
 ghost use mir.Val.{ofZ};
 ghost use Rattle.records.specs.Told.{toldGuid, toldPlace};
 ghost use Rattle.records.specs.Answer.{refused};
+ghost use Rattle.typelib.specs.Header.{library};
 ghost use Rattle.typelib.specs.Tables.{lent};
 ghost use Rattle.typelib.specs.Names.{nameBehind, nameBytes, nameText, stringBehind, stringBytes, stringText, guidPlace, segmentBytes, libName, libGuid, libHelpstring};
 
@@ -30,78 +33,28 @@ impl TypeLib {
     pub fn name_bytes(self, s: &[u8], offset: i32) -> PlaceAnswer
         ensures { λ r. ⌜ toldPlace r ≡ nameBytes (now (s .entry)) self (ofZ w32 offset) ⌝ }
     {
-        self.name_at(s, util::unsigned32(offset))
+        name_at(&self.numbers, s, util::unsigned32(offset))
     }
 
     // A name, where it is UTF-8.
     pub fn name(self, s: &[u8], offset: i32) -> PlaceAnswer
         ensures { λ r. ⌜ toldPlace r ≡ nameText (now (s .entry)) self (ofZ w32 offset) ⌝ }
     {
-        answer::text(s, self.name_at(s, util::unsigned32(offset)))
-    }
-
-    pub fn name_at(self, s: &[u8], offset: u32) -> PlaceAnswer
-        ensures { λ r. ⌜ toldPlace r ≡ nameBytes (now (s .entry)) self offset ⌝ }
-    {
-        match self.table_place(s, NAME_TABLE, offset, 9, false) {
-            PlaceAnswer::Value(intro) => {
-                let len = util::u8_or_zero(s, intro.at + 8) as usize;
-                self.name_behind(s, offset, len)
-            }
-            PlaceAnswer::Refused(n) => PlaceAnswer::Refused(n),
-        }
-    }
-
-    fn name_behind(self, s: &[u8], offset: u32, len: usize) -> PlaceAnswer
-        requires { ⌜ len < 256 ⌝ }
-        ensures { λ r. ⌜ toldPlace r ≡ nameBehind (now (s .entry)) self offset len ⌝ }
-    {
-        match self.table_place(s, NAME_TABLE, offset, 12 + len, false) {
-            PlaceAnswer::Value(entry) => PlaceAnswer::Value(Place {
-                at: entry.at + 12,
-                len,
-            }),
-            PlaceAnswer::Refused(n) => PlaceAnswer::Refused(n),
-        }
+        answer::text(s, name_at(&self.numbers, s, util::unsigned32(offset)))
     }
 
     // A string of the string table, where it is UTF-8.
     pub fn string(self, s: &[u8], offset: i32) -> PlaceAnswer
         ensures { λ r. ⌜ toldPlace r ≡ stringText (now (s .entry)) self (ofZ w32 offset) ⌝ }
     {
-        answer::text(s, self.string_at(s, util::unsigned32(offset)))
-    }
-
-    fn string_at(self, s: &[u8], offset: u32) -> PlaceAnswer
-        ensures { λ r. ⌜ toldPlace r ≡ stringBytes (now (s .entry)) self offset ⌝ }
-    {
-        match self.table_place(s, STRING_TABLE, offset, 2, false) {
-            PlaceAnswer::Value(place) => {
-                let len = util::u16_or_zero(s, place.at) as usize;
-                self.string_behind(s, offset, len)
-            }
-            PlaceAnswer::Refused(n) => PlaceAnswer::Refused(n),
-        }
-    }
-
-    fn string_behind(self, s: &[u8], offset: u32, len: usize) -> PlaceAnswer
-        requires { ⌜ len < 65536 ⌝ }
-        ensures { λ r. ⌜ toldPlace r ≡ stringBehind (now (s .entry)) self offset len ⌝ }
-    {
-        match self.table_place(s, STRING_TABLE, offset, 2 + len, false) {
-            PlaceAnswer::Value(entry) => PlaceAnswer::Value(Place {
-                at: entry.at + 2,
-                len,
-            }),
-            PlaceAnswer::Refused(n) => PlaceAnswer::Refused(n),
-        }
+        answer::text(s, string_at(&self.numbers, s, util::unsigned32(offset)))
     }
 
     // The GUID at an offset of its table.
     pub fn guid(self, s: &[u8], offset: i32) -> GuidAnswer
         ensures { λ r. ⌜ toldGuid r ≡ guidPlace (now (s .entry)) self (ofZ w32 offset) ⌝ }
     {
-        match self.guid_at(s, util::unsigned32(offset)) {
+        match guid_at(&self.numbers, s, util::unsigned32(offset)) {
             PlaceAnswer::Value(place) => GuidAnswer::Value(Guid {
                 at: place.at,
                 len: place.len,
@@ -110,17 +63,11 @@ impl TypeLib {
         }
     }
 
-    pub fn guid_at(self, s: &[u8], offset: u32) -> PlaceAnswer
-        ensures { λ r. ⌜ toldPlace r ≡ guidPlace (now (s .entry)) self offset ⌝ }
-    {
-        self.table_place(s, GUID_TABLE, offset, 16, false)
-    }
-
     // The bytes of a segment; 9 where it is missing or passes the file's end.
     pub fn segment_data(self, s: &[u8], index: usize) -> PlaceAnswer
         ensures { λ r. ⌜ toldPlace r ≡ segmentBytes (now (s .entry)) self index ⌝ }
     {
-        match self.segment(s, index) {
+        match self.segment(index) {
             PlaceAnswer::Value(place) => records::field::record_place(s, place.at, place.len, 0),
             PlaceAnswer::Refused(n) => over_long(s, n),
         }
@@ -167,6 +114,62 @@ impl TypeLib {
             I32Answer::Refused(n) => PlaceAnswer::Refused(n),
         }
     }
+}
+
+pub fn name_at(lib: &Numbers, s: &[u8], offset: u32) -> PlaceAnswer
+    ensures { λ r. ⌜ toldPlace r ≡ nameBytes (now (s .entry)) (library (now (lib .entry))) offset ⌝ }
+{
+    match tables::table_place(lib, s, NAME_TABLE, offset, 9, false) {
+        PlaceAnswer::Value(intro) => {
+            let len = util::u8_or_zero(s, intro.at + 8) as usize;
+            name_behind(lib, s, offset, len)
+        }
+        PlaceAnswer::Refused(n) => PlaceAnswer::Refused(n),
+    }
+}
+
+fn name_behind(lib: &Numbers, s: &[u8], offset: u32, len: usize) -> PlaceAnswer
+    requires { ⌜ len < 256 ⌝ }
+    ensures { λ r. ⌜ toldPlace r ≡ nameBehind (now (s .entry)) (library (now (lib .entry))) offset len ⌝ }
+{
+    match tables::table_place(lib, s, NAME_TABLE, offset, 12 + len, false) {
+        PlaceAnswer::Value(entry) => PlaceAnswer::Value(Place {
+            at: entry.at + 12,
+            len,
+        }),
+        PlaceAnswer::Refused(n) => PlaceAnswer::Refused(n),
+    }
+}
+
+fn string_at(lib: &Numbers, s: &[u8], offset: u32) -> PlaceAnswer
+    ensures { λ r. ⌜ toldPlace r ≡ stringBytes (now (s .entry)) (library (now (lib .entry))) offset ⌝ }
+{
+    match tables::table_place(lib, s, STRING_TABLE, offset, 2, false) {
+        PlaceAnswer::Value(place) => {
+            let len = util::u16_or_zero(s, place.at) as usize;
+            string_behind(lib, s, offset, len)
+        }
+        PlaceAnswer::Refused(n) => PlaceAnswer::Refused(n),
+    }
+}
+
+fn string_behind(lib: &Numbers, s: &[u8], offset: u32, len: usize) -> PlaceAnswer
+    requires { ⌜ len < 65536 ⌝ }
+    ensures { λ r. ⌜ toldPlace r ≡ stringBehind (now (s .entry)) (library (now (lib .entry))) offset len ⌝ }
+{
+    match tables::table_place(lib, s, STRING_TABLE, offset, 2 + len, false) {
+        PlaceAnswer::Value(entry) => PlaceAnswer::Value(Place {
+            at: entry.at + 2,
+            len,
+        }),
+        PlaceAnswer::Refused(n) => PlaceAnswer::Refused(n),
+    }
+}
+
+pub fn guid_at(lib: &Numbers, s: &[u8], offset: u32) -> PlaceAnswer
+    ensures { λ r. ⌜ toldPlace r ≡ guidPlace (now (s .entry)) (library (now (lib .entry))) offset ⌝ }
+{
+    tables::table_place(lib, s, GUID_TABLE, offset, 16, false)
 }
 
 // The refusal, or 1 where more bytes than the limit are lent.

@@ -1,7 +1,9 @@
 // Typeinfos, and the arrays of member identifiers and name offsets behind their members' records.
+use crate::Numbers;
 use crate::TypeInfoIndex;
 use crate::TypeInfoOffset;
 use crate::TypeLib;
+use crate::tables;
 use records::answer;
 use records::answer::I32Answer;
 use records::answer::Place;
@@ -16,8 +18,9 @@ ghost use mathlib.Core.Path.{_≡_};
 ghost use Prim.Native.Nat.{_+_, _*_, _<_};
 ghost use Rattle.records.specs.Record.{signed32};
 ghost use Rattle.records.specs.Told.{toldI32, toldPlace, toldU32};
+ghost use Rattle.typelib.specs.Header.{library};
 ghost use Rattle.typelib.specs.Told.{toldCounts, toldOffset, toldTypeInfo};
-ghost use Rattle.typelib.specs.TypeInfos.{offsetWord, typeinfoOffset, typeinfoIn, typeinfoOf, countsOf, auxIn, auxAt, funcMemid, varMemid, funcNameOffset, varNameOffset, funcName, varName};
+ghost use Rattle.typelib.specs.TypeInfos.{typeinfoOffset, typeinfoIn, typeinfoOf, countsOf, auxIn, auxAt, funcMemid, varMemid, funcNameOffset, varNameOffset, funcName, varName};
 
 const TYPEINFO_TABLE: usize = 0;
 
@@ -32,104 +35,48 @@ pub enum TypeInfoAnswer {
 }
 
 impl TypeLib {
-    // The word of the offset table: the typeinfo's byte offset in segment 0.
-    pub fn offset_word(self, s: &[u8], index: usize) -> U32Answer
-        ensures { λ r. ⌜ toldU32 r ≡ offsetWord (now (s .entry)) self index ⌝ }
-    {
-        if self.count as usize <= index {
-            return U32Answer::Refused(9);
-        }
-        match util::read_u32_le(s, self.table as usize + 4 * index) {
-            util::U32Read::Value(x) => U32Answer::Value(x),
-            util::U32Read::Nothing => U32Answer::Refused(9),
-        }
-    }
-
+    // The word of the offset table for a typeinfo: its byte offset in segment 0.
     pub fn typeinfo_offset(self, s: &[u8], index: TypeInfoIndex) -> OffsetAnswer
-        ensures { λ r. ⌜ toldOffset r ≡ signed32 (typeinfoOffset (now (s .entry)) self (index .0)) ⌝ }
+        ensures { λ r. ⌜ toldOffset r ≡ typeinfoOffset (now (s .entry)) self (index .0) ⌝ }
     {
         if LIMIT < s.len() {
             return OffsetAnswer::Refused(1);
         }
-        match self.offset_word(s, index.0) {
-            U32Answer::Value(x) => OffsetAnswer::Value(TypeInfoOffset(util::signed32(x))),
-            U32Answer::Refused(n) => OffsetAnswer::Refused(n),
-        }
+        tables::offset_word(&self.numbers, s, index)
     }
 
     pub fn typeinfo(self, s: &[u8], index: TypeInfoIndex) -> TypeInfoAnswer
         ensures { λ r. ⌜ toldTypeInfo r ≡ typeinfoOf (now (s .entry)) self (index .0) ⌝ }
     {
-        if LIMIT < s.len() {
-            return TypeInfoAnswer::Refused(1);
-        }
-        match self.offset_word(s, index.0) {
-            U32Answer::Value(offset) => self.typeinfo_in(s, offset),
-            U32Answer::Refused(_) => TypeInfoAnswer::Refused(6),
-        }
-    }
-
-    fn typeinfo_in(self, s: &[u8], offset: u32) -> TypeInfoAnswer
-        ensures { λ r. ⌜ toldTypeInfo r ≡ typeinfoIn (now (s .entry)) self offset ⌝ }
-    {
-        if NEGATIVE <= offset {
-            return TypeInfoAnswer::Refused(6);
-        }
-        match self.segment(s, TYPEINFO_TABLE) {
-            PlaceAnswer::Value(table) => match crate::place_in(s, table, offset, 0x64, false) {
-                PlaceAnswer::Value(place) => TypeInfoAnswer::Value(TypeInfoEntry {
-                    at: place.at,
-                    len: place.len,
-                }),
-                PlaceAnswer::Refused(_) => TypeInfoAnswer::Refused(8),
-            },
-            PlaceAnswer::Refused(_) => TypeInfoAnswer::Refused(7),
-        }
+        typeinfo_at(&self.numbers, s, index)
     }
 
     // The member identifier of function `index`.
     pub fn func_memid(self, s: &[u8], ti: TypeInfoEntry, index: usize) -> I32Answer
         ensures { λ r. ⌜ toldI32 r ≡ signed32 (funcMemid (now (s .entry)) ti index) ⌝ }
     {
-        match declared_counts(s, ti) {
-            CountsAnswer::Value(c) => signed(aux_at(s, ti, 0, index)),
-            CountsAnswer::Refused(n) => I32Answer::Refused(n),
-        }
+        func_memid(s, ti, index)
     }
 
     // The member identifier of variable `index`.
     pub fn var_memid(self, s: &[u8], ti: TypeInfoEntry, index: usize) -> I32Answer
         ensures { λ r. ⌜ toldI32 r ≡ signed32 (varMemid (now (s .entry)) ti index) ⌝ }
     {
-        match declared_counts(s, ti) {
-            CountsAnswer::Value(c) => signed(aux_at(s, ti, c.funcs as u32, index)),
-            CountsAnswer::Refused(n) => I32Answer::Refused(n),
-        }
+        var_memid(s, ti, index)
     }
 
     // The name offset of function `index`; -1 where it has no name of its own.
     pub fn func_name_offset(self, s: &[u8], ti: TypeInfoEntry, index: usize) -> I32Answer
         ensures { λ r. ⌜ toldI32 r ≡ signed32 (funcNameOffset (now (s .entry)) ti index) ⌝ }
     {
-        match declared_counts(s, ti) {
-            CountsAnswer::Value(c) => signed(aux_at(s, ti, c.funcs as u32 + c.vars as u32, index)),
-            CountsAnswer::Refused(n) => I32Answer::Refused(n),
-        }
+        func_name_offset(s, ti, index)
     }
 
     // The name offset of variable `index`.
     pub fn var_name_offset(self, s: &[u8], ti: TypeInfoEntry, index: usize) -> I32Answer
         ensures { λ r. ⌜ toldI32 r ≡ signed32 (varNameOffset (now (s .entry)) ti index) ⌝ }
     {
-        match declared_counts(s, ti) {
-            CountsAnswer::Value(c) => signed(aux_at(
-                s,
-                ti,
-                2 * (c.funcs as u32) + c.vars as u32,
-                index,
-            )),
-            CountsAnswer::Refused(n) => I32Answer::Refused(n),
-        }
+        var_name_offset(s, ti, index)
     }
 
     // The name of function `index`, where it is UTF-8.
@@ -139,7 +86,7 @@ impl TypeLib {
         if LIMIT < s.len() {
             return PlaceAnswer::Refused(1);
         }
-        let I32Answer::Value(offset) = self.func_name_offset(s, ti, index) else {
+        let I32Answer::Value(offset) = func_name_offset(s, ti, index) else {
             return PlaceAnswer::Refused(9);
         };
         self.name(s, offset)
@@ -152,10 +99,78 @@ impl TypeLib {
         if LIMIT < s.len() {
             return PlaceAnswer::Refused(1);
         }
-        let I32Answer::Value(offset) = self.var_name_offset(s, ti, index) else {
+        let I32Answer::Value(offset) = var_name_offset(s, ti, index) else {
             return PlaceAnswer::Refused(9);
         };
         self.name(s, offset)
+    }
+}
+
+// The typeinfo at an index; 6, 7 or 8 where there is none.
+pub fn typeinfo_at(lib: &Numbers, s: &[u8], index: TypeInfoIndex) -> TypeInfoAnswer
+    ensures { λ r. ⌜ toldTypeInfo r ≡ typeinfoOf (now (s .entry)) (library (now (lib .entry))) (index .0) ⌝ }
+{
+    if LIMIT < s.len() {
+        return TypeInfoAnswer::Refused(1);
+    }
+    match tables::offset_word(lib, s, index) {
+        OffsetAnswer::Value(offset) => typeinfo_in(lib, s, offset),
+        OffsetAnswer::Refused(_) => TypeInfoAnswer::Refused(6),
+    }
+}
+
+fn typeinfo_in(lib: &Numbers, s: &[u8], offset: TypeInfoOffset) -> TypeInfoAnswer
+    ensures { λ r. ⌜ toldTypeInfo r ≡ typeinfoIn (now (s .entry)) (library (now (lib .entry))) (offset .0) ⌝ }
+{
+    if NEGATIVE <= offset.0 {
+        return TypeInfoAnswer::Refused(6);
+    }
+    match tables::segment(lib, TYPEINFO_TABLE) {
+        PlaceAnswer::Value(table) => match tables::place_in(s, table, offset.0, 0x64, false) {
+            PlaceAnswer::Value(place) => TypeInfoAnswer::Value(TypeInfoEntry {
+                at: place.at,
+                len: place.len,
+            }),
+            PlaceAnswer::Refused(_) => TypeInfoAnswer::Refused(8),
+        },
+        PlaceAnswer::Refused(_) => TypeInfoAnswer::Refused(7),
+    }
+}
+
+// The words of a typeinfo's members need no library: the readings above are these.
+pub fn func_memid(s: &[u8], ti: TypeInfoEntry, index: usize) -> I32Answer
+    ensures { λ r. ⌜ toldI32 r ≡ signed32 (funcMemid (now (s .entry)) ti index) ⌝ }
+{
+    match declared_counts(s, ti) {
+        CountsAnswer::Value(c) => signed(aux_at(s, ti, 0, index)),
+        CountsAnswer::Refused(n) => I32Answer::Refused(n),
+    }
+}
+
+pub fn var_memid(s: &[u8], ti: TypeInfoEntry, index: usize) -> I32Answer
+    ensures { λ r. ⌜ toldI32 r ≡ signed32 (varMemid (now (s .entry)) ti index) ⌝ }
+{
+    match declared_counts(s, ti) {
+        CountsAnswer::Value(c) => signed(aux_at(s, ti, c.funcs as u32, index)),
+        CountsAnswer::Refused(n) => I32Answer::Refused(n),
+    }
+}
+
+pub fn func_name_offset(s: &[u8], ti: TypeInfoEntry, index: usize) -> I32Answer
+    ensures { λ r. ⌜ toldI32 r ≡ signed32 (funcNameOffset (now (s .entry)) ti index) ⌝ }
+{
+    match declared_counts(s, ti) {
+        CountsAnswer::Value(c) => signed(aux_at(s, ti, c.funcs as u32 + c.vars as u32, index)),
+        CountsAnswer::Refused(n) => I32Answer::Refused(n),
+    }
+}
+
+pub fn var_name_offset(s: &[u8], ti: TypeInfoEntry, index: usize) -> I32Answer
+    ensures { λ r. ⌜ toldI32 r ≡ signed32 (varNameOffset (now (s .entry)) ti index) ⌝ }
+{
+    match declared_counts(s, ti) {
+        CountsAnswer::Value(c) => signed(aux_at(s, ti, 2 * (c.funcs as u32) + c.vars as u32, index)),
+        CountsAnswer::Refused(n) => I32Answer::Refused(n),
     }
 }
 

@@ -12,7 +12,7 @@ array-desc-at-requires : tie.Need-array-desc-at-requires
 array-desc-at-requires c κs = search needs
 
 returns : tie.Need-returns
-returns c = c .array-desc-at .ensures ∙ ap (arrayDescAt (c .before .before .before .args .s .now) (c .before .before .before .args .self)) (pattern (c .before .before .before .args .offset) _ (c .before .before .before .fits .offset) (c .before .unsigned32 .ensures))
+returns c = c .array-desc-at .ensures ∙ ap (arrayDescAt (c .before .before .before .before .before .args .s .now) (c .before .before .before .before .before .args .t1)) (pattern (c .before .before .before .before .before .args .offset) _ (c .before .before .before .before .before .fits .offset) (c .before .unsigned32 .ensures))
 
 pub array-desc-spec : {M : Type 1} → statement M
 array-desc-spec = tie.close (tie.spec unsigned32-requires array-desc-at-requires returns)

@@ -20,10 +20,10 @@ enum-known-n : tie.Need-enum-known-n
 enum-known-n c = search needs
 
 returns : tie.Need-returns
-returns c = tells toldPlace (c .before .place .given .1) (c .before .before .before .guid-at .ensures) ∙ ap (guidPlace (c .before .before .before .before .before .before .args .s .now) (c .before .before .before .before .before .before .args .self)) (pattern (c .before .before .before .before .before .before .args .offset) _ (c .before .before .before .before .before .before .fits .offset) (c .before .before .before .before .unsigned32 .ensures))
+returns c = tells toldPlace (c .before .place .given .1) (c .before .before .before .guid-at .ensures) ∙ ap (guidPlace (c .before .before .before .before .before .before .before .before .args .s .now) (c .before .before .before .before .before .before .before .before .args .t1)) (pattern (c .before .before .before .before .before .before .before .before .args .offset) _ (c .before .before .before .before .before .before .before .before .fits .offset) (c .before .before .before .before .unsigned32 .ensures))
 
 returns-2 : tie.Need-returns-2
-returns-2 c = tells toldPlace (c .before .n .given .1) (c .before .before .before .guid-at .ensures) ∙ ap (guidPlace (c .before .before .before .before .before .before .args .s .now) (c .before .before .before .before .before .before .args .self)) (pattern (c .before .before .before .before .before .before .args .offset) _ (c .before .before .before .before .before .before .fits .offset) (c .before .before .before .before .unsigned32 .ensures))
+returns-2 c = tells toldPlace (c .before .n .given .1) (c .before .before .before .guid-at .ensures) ∙ ap (guidPlace (c .before .before .before .before .before .before .before .before .args .s .now) (c .before .before .before .before .before .before .before .before .args .t1)) (pattern (c .before .before .before .before .before .before .before .before .args .offset) _ (c .before .before .before .before .before .before .before .before .fits .offset) (c .before .before .before .before .unsigned32 .ensures))
 
 pub guid-spec : {M : Type 1} → statement M
 guid-spec =

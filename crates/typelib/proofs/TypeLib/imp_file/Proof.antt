@@ -12,7 +12,7 @@ imp-file-at-requires : tie.Need-imp-file-at-requires
 imp-file-at-requires c κs = search needs
 
 returns : tie.Need-returns
-returns c = c .imp-file-at .ensures ∙ ap (impFileAt (c .before .before .before .args .s .now) (c .before .before .before .args .self)) (pattern (c .before .before .before .args .offset) _ (c .before .before .before .fits .offset) (c .before .unsigned32 .ensures))
+returns c = c .imp-file-at .ensures ∙ ap (impFileAt (c .before .before .before .before .before .args .s .now) (c .before .before .before .before .before .args .t1)) (pattern (c .before .before .before .before .before .args .offset) _ (c .before .before .before .before .before .fits .offset) (c .before .unsigned32 .ensures))
 
 pub imp-file-spec : {M : Type 1} → statement M
 imp-file-spec = tie.close (tie.spec unsigned32-requires imp-file-at-requires returns)

@@ -16,7 +16,7 @@ text-requires : tie.Need-text-requires
 text-requires c κs = search needs
 
 returns : tie.Need-returns
-returns c = c .text .ensures ∙ ap (textOf (c .before .before .before .before .args .s .now)) (c .before .name-at .ensures ∙ ap (nameBytes (c .before .before .before .before .args .s .now) (c .before .before .before .before .args .self)) (pattern (c .before .before .before .before .args .offset) _ (c .before .before .before .before .fits .offset) (c .before .before .unsigned32 .ensures)))
+returns c = c .text .ensures ∙ ap (textOf (c .before .before .before .before .before .before .args .s .now)) (c .before .name-at .ensures ∙ ap (nameBytes (c .before .before .before .before .before .before .args .s .now) (c .before .before .before .before .before .before .args .t1)) (pattern (c .before .before .before .before .before .before .args .offset) _ (c .before .before .before .before .before .before .fits .offset) (c .before .before .unsigned32 .ensures)))
 
 pub name-spec : {M : Type 1} → statement M
 name-spec = tie.close (tie.spec unsigned32-requires name-at-requires text-requires returns)

@@ -1,9 +1,9 @@
 use Rattle.records.specs.Answer.{value}
 use Rattle.typelib.specs.declared.TypeLib.{TypeLib}
 use Rattle.typelib.specs.HeaderLaws.{parse-long, parse-short, parse-magic, parse-count, parse-directory, parse-library}
-use Rattle.typelib.specs.Header.{parsed, libraryOf}
+use Rattle.typelib.specs.Header.{library, tableAt, pairsAt, numbersWith, parsed, libraryOf}
 use Rattle.util.specs.Read.{read-zero}
-use Prim.Native.Nat.{_+_, _≤_}
+use Prim.Native.Nat.{ℕ, _+_, _*_, _≤_}
 use lib.ListN.{length}
 use native.Mathlib.Omega.{arith}
 use mathlib.Core.Path.{_≡_, sym, _∙_, ap}
@@ -41,8 +41,8 @@ refusal-requires-4 c κs = search needs
 returns-4 : tie.Need-returns-4
 returns-4 c = let m = (read-zero 4 (c .before .before .before .before .before .before .before .before .args .s .now) 0 _ (omega arith) (c .before .before .before .before .u32-or-zero .ensures)) in let n = (read-zero 4 (c .before .before .before .before .before .before .before .before .args .s .now) 32 _ (omega arith) (c .before .before .u32-or-zero2 .ensures)) in c .refusal4 .ensures ∙ ap parsed (parse-count (c .before .before .before .before .before .before .before .before .args .s .now) (c .before .before .before .before .before .before .if1 .left) (c .before .before .before .before .before .if2 .left) (omega arith) (omega arith))
 
-table-start-requires : tie.Need-table-start-requires
-table-start-requires c κs = search needs
+table-at-requires : tie.Need-table-at-requires
+table-at-requires c κs = search needs
 
 cast-at : tie.Need-cast-at
 cast-at c = search needs
@@ -63,18 +63,23 @@ refusal-requires-5 : tie.Need-refusal-requires-5
 refusal-requires-5 c κs = search needs
 
 returns-5 : tie.Need-returns-5
-returns-5 c = let m = (read-zero 4 (c .before .before .before .before .before .before .before .before .before .before .args .s .now) 0 _ (omega arith) (c .before .before .before .before .before .before .u32-or-zero .ensures)) in let n = (read-zero 4 (c .before .before .before .before .before .before .before .before .before .before .args .s .now) 32 _ (omega arith) (c .before .before .before .before .u32-or-zero2 .ensures)) in let t = c .before .before .table-start .ensures .0 in c .refusal5 .ensures ∙ ap parsed (parse-directory (c .before .before .before .before .before .before .before .before .before .before .args .s .now) (c .before .before .before .before .before .before .before .before .if1 .left) (c .before .before .before .before .before .before .before .if2 .left) (omega arith) (omega arith) (omega arith))
+returns-5 c = let m = (read-zero 4 (c .before .before .before .before .before .before .before .before .before .before .args .s .now) 0 _ (omega arith) (c .before .before .before .before .before .before .u32-or-zero .ensures)) in let n = (read-zero 4 (c .before .before .before .before .before .before .before .before .before .before .args .s .now) 32 _ (omega arith) (c .before .before .before .before .u32-or-zero2 .ensures)) in let t = c .before .before .table-at .ensures .0 in c .refusal5 .ensures ∙ ap parsed (parse-directory (c .before .before .before .before .before .before .before .before .before .before .args .s .now) (c .before .before .before .before .before .before .before .before .if1 .left) (c .before .before .before .before .before .before .before .if2 .left) (omega arith) (omega arith) (omega arith))
+
+numbers-at-requires : tie.Need-numbers-at-requires
+numbers-at-requires c κs = search needs
 
 returns-6 : tie.Need-returns-6
 unfolding libraryOf
 returns-6 c =
-    let s = c .before .before .before .before .before .before .before .before .before .args .s .now in
-    let m = read-zero 4 s 0 _ (omega arith) (c .before .before .before .before .before .u32-or-zero .ensures) in
-    let n = read-zero 4 s 32 _ (omega arith) (c .before .before .before .u32-or-zero2 .ensures) in
-    let t = c .before .table-start .ensures .0 in
-    let l : _≡_ {A = TypeLib} (record { count = c .before .before .before .u32-or-zero2 .result; table = c .before .table-start .result }) (libraryOf s) = cc (n, t) in
+    let s = c .before .before .before .before .before .before .before .before .before .before .args .s .now in
+    let m = read-zero 4 s 0 _ (omega arith) (c .before .before .before .before .before .before .u32-or-zero .ensures) in
+    let n = read-zero 4 s 32 _ (omega arith) (c .before .before .before .before .u32-or-zero2 .ensures) in
+    let t = c .before .before .table-at .ensures .0 in
+    let count = c .before .before .before .before .u32-or-zero2 .result in
+    let l : _≡_ {A = TypeLib} (library (c .numbers-at .result)) (libraryOf s) =
+        ap library (c .numbers-at .ensures ∙ ap (λ (k : ℕ). numbersWith (pairsAt s (k + 4 * count)) count k) t ∙ ap (λ (k : ℕ). numbersWith (pairsAt s (tableAt s + 4 * k)) k (tableAt s)) n) in
     ap (λ (x : TypeLib). parsed (value x)) l
-    ∙ ap parsed (parse-library s (c .before .before .before .before .before .before .before .if1 .left) (c .before .before .before .before .before .before .if2 .left) (omega arith) (omega arith) (omega arith))
+    ∙ ap parsed (parse-library s (c .before .before .before .before .before .before .before .before .if1 .left) (c .before .before .before .before .before .before .before .if2 .left) (omega arith) (omega arith) (omega arith))
 
 pub parse-spec : {M : Type 1} → statement M
 parse-spec =
@@ -90,7 +95,7 @@ parse-spec =
     u32-or-zero-requires-2
     refusal-requires-4
     returns-4
-    table-start-requires
+    table-at-requires
     cast-at
     cast-at-2
     mul-at
@@ -98,4 +103,5 @@ parse-spec =
     add-if5
     refusal-requires-5
     returns-5
+    numbers-at-requires
     returns-6)

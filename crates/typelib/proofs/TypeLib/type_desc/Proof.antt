@@ -12,7 +12,7 @@ type-desc-at-requires : tie.Need-type-desc-at-requires
 type-desc-at-requires c κs = search needs
 
 returns : tie.Need-returns
-returns c = c .type-desc-at .ensures ∙ ap (typeDescAt (c .before .before .before .args .s .now) (c .before .before .before .args .self)) (pattern (c .before .before .before .args .offset) _ (c .before .before .before .fits .offset) (c .before .unsigned32 .ensures))
+returns c = c .type-desc-at .ensures ∙ ap (typeDescAt (c .before .before .before .before .before .args .s .now) (c .before .before .before .before .before .args .t1)) (pattern (c .before .before .before .before .before .args .offset) _ (c .before .before .before .before .before .fits .offset) (c .before .unsigned32 .ensures))
 
 pub type-desc-spec : {M : Type 1} → statement M
 type-desc-spec = tie.close (tie.spec unsigned32-requires type-desc-at-requires returns)

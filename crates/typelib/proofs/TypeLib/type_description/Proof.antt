@@ -14,7 +14,7 @@ type-description-at-requires : tie.Need-type-description-at-requires
 type-description-at-requires c κs = search needs
 
 returns : tie.Need-returns
-returns c = c .type-description-at .ensures ∙ ap (λ (n : ℕ). lent (c .before .before .before .args .s .now) (typeDescription (c .before .before .before .args .s .now) (c .before .before .before .args .self) n)) (pattern (c .before .before .before .args .datatype) _ (c .before .before .before .fits .datatype) (c .before .unsigned32 .ensures))
+returns c = c .type-description-at .ensures ∙ ap (λ (n : ℕ). lent (c .before .before .before .before .before .args .s .now) (typeDescription (c .before .before .before .before .before .args .s .now) (c .before .before .before .before .before .args .t1) n)) (pattern (c .before .before .before .before .before .args .datatype) _ (c .before .before .before .before .before .fits .datatype) (c .before .unsigned32 .ensures))
 
 pub type-description-spec : {M : Type 1} → statement M
 type-description-spec =
