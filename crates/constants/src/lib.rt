@@ -3,7 +3,9 @@ use records::answer::Place;
 use records::answer::PlaceAnswer;
 use records::field::LIMIT;
 use records::types::ConstValue;
+use typelib::Numbers;
 use typelib::TypeLib;
+use typelib::tables;
 use util::F32Read;
 use util::F64Read;
 use util::NEGATIVE;
@@ -14,6 +16,7 @@ ghost use mir.Syntax.{w32};
 ghost use mir.Val.{ofZ};
 ghost use Rattle.records.specs.Varenum.{VT-DECIMAL};
 ghost use Rattle.util.specs.Read.{le};
+ghost use Rattle.typelib.specs.Header.{library};
 ghost use Rattle.constants.specs.Constants.{storedWidth, r4Of, r8Of, dateOf, constantOf, inlineCode, inlineOf, textBehind, valueBehind, storedAt, constAt};
 ghost use Rattle.constants.specs.Told.{toldConst};
 
@@ -50,12 +53,12 @@ pub enum ConstAnswer {
 pub fn const_value(lib: TypeLib, s: &[u8], word: i32) -> ConstAnswer
     ensures { λ r. ⌜ toldConst r ≡ constAt (now (s .entry)) lib (ofZ w32 word) ⌝ }
 {
-    const_at(lib, s, util::unsigned32(word))
+    const_at(&lib.numbers, s, util::unsigned32(word))
 }
 
 // The same by the word's 32-bit pattern.
-pub fn const_at(lib: TypeLib, s: &[u8], word: u32) -> ConstAnswer
-    ensures { λ r. ⌜ toldConst r ≡ constAt (now (s .entry)) lib word ⌝ }
+pub fn const_at(lib: &Numbers, s: &[u8], word: u32) -> ConstAnswer
+    ensures { λ r. ⌜ toldConst r ≡ constAt (now (s .entry)) (library (now (lib .entry))) word ⌝ }
 {
     if LIMIT < s.len() {
         return ConstAnswer::Refused(1);
@@ -67,10 +70,10 @@ pub fn const_at(lib: TypeLib, s: &[u8], word: u32) -> ConstAnswer
 }
 
 // A stored constant: its code in two bytes, and behind them its value.
-fn stored_const(lib: TypeLib, s: &[u8], offset: u32) -> ConstAnswer
-    ensures { λ r. ⌜ toldConst r ≡ storedAt (now (s .entry)) lib offset ⌝ }
+fn stored_const(lib: &Numbers, s: &[u8], offset: u32) -> ConstAnswer
+    ensures { λ r. ⌜ toldConst r ≡ storedAt (now (s .entry)) (library (now (lib .entry))) offset ⌝ }
 {
-    match lib.table_place(s, CONSTANTS, offset, 2, false) {
+    match tables::table_place(lib, s, CONSTANTS, offset, 2, false) {
         PlaceAnswer::Value(place) => {
             let vt = util::u16_or_zero(s, place.at);
             value_behind(lib, s, offset, vt)
@@ -80,10 +83,10 @@ fn stored_const(lib: TypeLib, s: &[u8], offset: u32) -> ConstAnswer
 }
 
 // The value behind a code, with the bytes that the code asks for.
-fn value_behind(lib: TypeLib, s: &[u8], offset: u32, vt: u16) -> ConstAnswer
-    ensures { λ r. ⌜ toldConst r ≡ valueBehind (now (s .entry)) lib offset vt ⌝ }
+fn value_behind(lib: &Numbers, s: &[u8], offset: u32, vt: u16) -> ConstAnswer
+    ensures { λ r. ⌜ toldConst r ≡ valueBehind (now (s .entry)) (library (now (lib .entry))) offset vt ⌝ }
 {
-    match lib.table_place(s, CONSTANTS, offset, 2 + stored_width(vt), false) {
+    match tables::table_place(lib, s, CONSTANTS, offset, 2 + stored_width(vt), false) {
         PlaceAnswer::Value(place) => {
             let at = place.at + 2;
             match vt {
@@ -97,8 +100,8 @@ fn value_behind(lib: TypeLib, s: &[u8], offset: u32, vt: u16) -> ConstAnswer
 }
 
 // The text behind its length, which is -1 for a null text.
-fn text_behind(lib: TypeLib, s: &[u8], offset: u32, length: u32) -> ConstAnswer
-    ensures { λ r. ⌜ toldConst r ≡ textBehind (now (s .entry)) lib offset length ⌝ }
+fn text_behind(lib: &Numbers, s: &[u8], offset: u32, length: u32) -> ConstAnswer
+    ensures { λ r. ⌜ toldConst r ≡ textBehind (now (s .entry)) (library (now (lib .entry))) offset length ⌝ }
 {
     if length == 0xffff_ffff {
         return ConstAnswer::Value(ConstValue::NullBstr);
@@ -107,7 +110,7 @@ fn text_behind(lib: TypeLib, s: &[u8], offset: u32, length: u32) -> ConstAnswer
         return ConstAnswer::Refused(9);
     }
     let len = length as usize;
-    match lib.table_place(s, CONSTANTS, offset, 6 + len, false) {
+    match tables::table_place(lib, s, CONSTANTS, offset, 6 + len, false) {
         PlaceAnswer::Value(place) => {
             let at = place.at + 6;
             ConstAnswer::Value(ConstValue::Bstr(Place { at, len }))

@@ -132,7 +132,7 @@ module _ (s : List ℕ) (lib : TypeLib) where
 
   start-sound : (ti : TypeInfoEntry) → Held ti → Sound (implTypesOf s lib ti)
   start-sound ti h =
-      answers-map (λ offset. record { table = referenceTable s lib; next = offset })
+      answers-map (λ offset. record { table = referenceTable lib; next = offset })
       (subst Sound (sym (field-is typeInfoBase "datatype1" s (ti .at) (ti .len) h)) (gives tt)) (λ _ _. tt)
 
   base-sound : (ti : TypeInfoEntry) → Held ti → (h : BaseShape) → Sound (baseOf s lib ti h)

@@ -29,13 +29,13 @@ use Rattle.typelib.specs.Tabulate.{tabulate}
 -- ---- where a chain starts
 
 -- segment 3; where it is missing, offsets count from file offset 0
-abbrev pub referenceTable : List ℕ → TypeLib → Place
-referenceTable s lib = tableOf (segmentOf lib 3)
+abbrev pub referenceTable : TypeLib → Place
+referenceTable lib = tableOf (segmentOf lib 3)
 
 -- a typeinfo's chain starts at `datatype1`
 abbrev pub implTypesOf : List ℕ → TypeLib → TypeInfoEntry → Answer ImplTypeCursor
 implTypesOf s lib ti =
-    map (λ offset. record { table = referenceTable s lib; next = offset }) (field typeInfoBase "datatype1" s (ti .at) (ti .len))
+    map (λ offset. record { table = referenceTable lib; next = offset }) (field typeInfoBase "datatype1" s (ti .at) (ti .len))
 
 -- ---- one record
 

@@ -22,7 +22,7 @@ use Rattle.impltypes.specs.declared.ImplTypeCursor.{ImplTypeCursor}
 use Rattle.impltypes.specs.Search.{apart, Some, some-below, none-below, before-first, at-first, Twice, twice}
 use Rattle.typelib.specs.Tables.{lent, negative, inTable, placeIn}
 use Rattle.typelib.specs.TableLaws.{lent-fits, found-in}
-use Rattle.typelib.specs.Tabulate.{tabulate, getD-tabulate}
+use Rattle.typelib.specs.Tabulate.{tabulate, length-tabulate, getD-tabulate}
 use Rattle.cursors.specs.Cursors.{yielded, ended}
 use Rattle.impltypes.specs.Chain.{referenceTable, implTypesOf, referenceAt, onext, implTypeStepFrom, implTypeStep, isRefused}
 use Rattle.impltypes.specs.Chain.{offsetAt, endsAt, returnsAt, taken, walkOf, placeAt, recordsOf, cursorAt, Passes, Length, Circle}
@@ -48,10 +48,10 @@ place-nine strict s table offset size =
 
 -- ---- where a chain starts
 
-pub types-value : (s : List ℕ) (lib : TypeLib) (ti : TypeInfoEntry) (offset : ℕ) (table : Place) → value offset ≡ field typeInfoBase "datatype1" s (ti .at) (ti .len) → table ≡ referenceTable s lib → value (record { table = table; next = offset }) ≡ implTypesOf s lib ti
+pub types-value : (s : List ℕ) (lib : TypeLib) (ti : TypeInfoEntry) (offset : ℕ) (table : Place) → value offset ≡ field typeInfoBase "datatype1" s (ti .at) (ti .len) → table ≡ referenceTable lib → value (record { table = table; next = offset }) ≡ implTypesOf s lib ti
 types-value s lib ti offset table e h =
     ap (λ (t : Place). value (record { table = t; next = offset })) h
-    ∙ ap (map (λ (x : ℕ). record { table = referenceTable s lib; next = x })) e
+    ∙ ap (map (λ (x : ℕ). record { table = referenceTable lib; next = x })) e
 
 -- ---- one step
 

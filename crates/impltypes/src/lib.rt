@@ -7,12 +7,14 @@ use records::field;
 use records::field::LIMIT;
 use records::refrecord::RefRecord;
 use records::typeinfo::TypeInfoEntry;
+use typelib::Numbers;
 use typelib::TypeLib;
-use typelib::place_in;
+use typelib::tables;
 ghost use mathlib.Core.Path.{_≡_};
 ghost use Prim.Native.Nat.{_+_, _≤_};
 ghost use lib.ListN.{length};
 ghost use Rattle.records.specs.Told.{toldPlace};
+ghost use Rattle.typelib.specs.Header.{library};
 ghost use Rattle.impltypes.specs.Chain.{implTypesOf, referenceAt, onext, implTypeStep, walkOf};
 ghost use Rattle.impltypes.specs.Chain.{toldImplTypes, toldImplTypeStep, toldWalk};
 
@@ -46,9 +48,16 @@ pub enum WalkAnswer {
 pub fn impl_types(lib: TypeLib, s: &[u8], ti: TypeInfoEntry) -> ImplTypesAnswer
     ensures { λ r. ⌜ toldImplTypes r ≡ implTypesOf (now (s .entry)) lib ti ⌝ }
 {
+    impl_types_at(&lib.numbers, s, ti)
+}
+
+// The same, the library's numbers lent.
+pub fn impl_types_at(lib: &Numbers, s: &[u8], ti: TypeInfoEntry) -> ImplTypesAnswer
+    ensures { λ r. ⌜ toldImplTypes r ≡ implTypesOf (now (s .entry)) (library (now (lib .entry))) ti ⌝ }
+{
     match field::field_u32(s, ti.at, ti.len, TypeInfoEntry::SIZE, 0x54) {
         U32Answer::Value(next) => {
-            let table = lib.table(s, REFERENCE_TABLE);
+            let table = tables::table(lib, REFERENCE_TABLE);
             ImplTypesAnswer::Value(ImplTypeCursor { table, next })
         }
         U32Answer::Refused(n) => ImplTypesAnswer::Refused(n),
@@ -105,7 +114,7 @@ impl ImplTypeCursor {
 fn reference_at(s: &[u8], table: Place, offset: u32) -> PlaceAnswer
     ensures { λ r. ⌜ toldPlace r ≡ referenceAt (now (s .entry)) table offset ⌝ }
 {
-    place_in(s, table, offset, RefRecord::SIZE, false)
+    tables::place_in(s, table, offset, RefRecord::SIZE, false)
 }
 
 // The offset that the record at `at` names.

@@ -36,13 +36,13 @@ module _ (s : List ℕ) (lib : TypeLib) (c : TypeInfoCursor) where
   unfolding typeinfoStep
   typeinfos-long h = rw (lt-ltb limit (length s) h)
 
-  pub typeinfos-end : length s ≤ limit → typeCount lib ≤ c .index → ended 9 c ≡ typeinfoStep s lib c
+  pub typeinfos-end : length s ≤ limit → typeCount lib ≤ c .index .0 → ended 9 c ≡ typeinfoStep s lib c
   unfolding typeinfoStep
-  typeinfos-end h k = rw (le-ltb limit (length s) h, le-leb (typeCount lib) (c .index) k)
+  typeinfos-end h k = rw (le-ltb limit (length s) h, le-leb (typeCount lib) (c .index .0) k)
 
-  pub typeinfos-next : (a : Answer Place) → length s ≤ limit → c .index < typeCount lib → a ≡ typeinfoOf s lib (c .index) → typeinfoStepFrom c a ≡ typeinfoStep s lib c
+  pub typeinfos-next : (a : Answer Place) → length s ≤ limit → c .index .0 < typeCount lib → a ≡ typeinfoOf s lib (c .index .0) → typeinfoStepFrom c a ≡ typeinfoStep s lib c
   unfolding typeinfoStep
-  typeinfos-next a h k e = rw (le-ltb limit (length s) h, lt-leb (typeCount lib) (c .index) k) (ap (typeinfoStepFrom c) e)
+  typeinfos-next a h k e = rw (le-ltb limit (length s) h, lt-leb (typeCount lib) (c .index .0) k) (ap (typeinfoStepFrom c) e)
 
 -- ---- import files
 

@@ -64,26 +64,33 @@ impFileStep s c = impFileStepFrom c (lent s (impFileEntry s (c .pos) (c .end)))
 
 -- ---- tables from their start to their end; a missing one is empty
 
-abbrev pub guidsOf : List ℕ → TypeLib → GuidCursor
-guidsOf s lib = record { pos = tableOf (segmentOf lib 5) .at; end = tableOf (segmentOf lib 5) .at + tableOf (segmentOf lib 5) .len }
+abbrev pub guidsOf : List ℕ → TypeLib → Answer GuidCursor
+guidsOf s lib = lent s (value (let table = tableOf (segmentOf lib 5) in record { pos = table .at; end = table .at + table .len }))
 
-abbrev pub importsOf : List ℕ → TypeLib → ImportCursor
-importsOf s lib = record { pos = tableOf (segmentOf lib 1) .at; end = tableOf (segmentOf lib 1) .at + tableOf (segmentOf lib 1) .len }
+abbrev pub importsOf : List ℕ → TypeLib → Answer ImportCursor
+importsOf s lib = lent s (value (let table = tableOf (segmentOf lib 1) in record { pos = table .at; end = table .at + table .len }))
 
-abbrev pub impFilesOf : List ℕ → TypeLib → ImpFileCursor
-impFilesOf s lib = record { pos = tableOf (segmentOf lib 2) .at; end = tableOf (segmentOf lib 2) .at + tableOf (segmentOf lib 2) .len }
+abbrev pub impFilesOf : List ℕ → TypeLib → Answer ImpFileCursor
+impFilesOf s lib = lent s (value (let table = tableOf (segmentOf lib 2) in record { pos = table .at; end = table .at + table .len }))
 
 -- ---- typeinfos
 
+-- the cursor at an index
+abbrev pub typeinfosFrom : ℕ → TypeInfoCursor
+typeinfosFrom k = record { index = record { 0 = k } }
+
+abbrev pub typeinfosOf : List ℕ → Answer TypeInfoCursor
+typeinfosOf s = lent s (value (typeinfosFrom 0))
+
 -- 6, 7 or 8 for an entry, and on to the next; 9 and the same cursor behind the last
 abbrev pub typeinfoStepFrom : TypeInfoCursor → Answer Place → Step TypeInfoCursor
-typeinfoStepFrom c (value p) = yielded p (record { index = c .index + 1 })
-typeinfoStepFrom c (refused n) = ended n (record { index = c .index + 1 })
+typeinfoStepFrom c (value p) = yielded p (typeinfosFrom (c .index .0 + 1))
+typeinfoStepFrom c (refused n) = ended n (typeinfosFrom (c .index .0 + 1))
 
 unfoldable pub typeinfoStep : List ℕ → TypeLib → TypeInfoCursor → Step TypeInfoCursor
 typeinfoStep s lib c =
     cond (ltb limit (length s)) (ended 1 c)
-    (cond (leb (typeCount lib) (c .index)) (ended 9 c) (typeinfoStepFrom c (typeinfoOf s lib (c .index))))
+    (cond (leb (typeCount lib) (c .index .0)) (ended 9 c) (typeinfoStepFrom c (typeinfoOf s lib (c .index .0))))
 
 -- ---- names
 
@@ -116,10 +123,11 @@ nameStepFrom c (refused n) = over n c
 abbrev pub nameStep : List ℕ → NameCursor → NameYield
 nameStep s c = nameStepFrom c (lent s (nameEntry s c))
 
-abbrev pub namesOf : List ℕ → TypeLib → NameCursor
-namesOf s lib =
-    record {
-      pos = tableOf (segmentOf lib 7) .at;
-      end = tableOf (segmentOf lib 7) .at + tableOf (segmentOf lib 7) .len;
-      start = tableOf (segmentOf lib 7) .at;
-    }
+-- all of the name table, whose entries are counted from its start
+abbrev pub namesIn : TypeLib → NameCursor
+namesIn lib =
+    let table = tableOf (segmentOf lib 7) in
+    record { pos = table .at; end = table .at + table .len; start = table .at }
+
+abbrev pub namesOf : List ℕ → TypeLib → Answer NameCursor
+namesOf s lib = lent s (value (namesIn lib))

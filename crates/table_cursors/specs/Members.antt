@@ -10,7 +10,7 @@ use Rattle.records.specs.declared.answer.Place.{Place}
 use Rattle.records.specs.Answer.{Answer, value, refused, bind}
 use Rattle.typelib.specs.declared.TypeLib.{TypeLib}
 use Rattle.table_cursors.specs.declared.iterators.NameCursor.{NameCursor}
-use Rattle.table_cursors.specs.Cursors.{NameYield, entry, over, nameStep, namesOf}
+use Rattle.table_cursors.specs.Cursors.{NameYield, entry, over, nameStep, namesIn}
 use Rattle.typelib.specs.Tables.{lent}
 use Rattle.typelib.specs.TypeInfos.{offsetWord}
 
@@ -36,4 +36,4 @@ behind (suc k) s href (over n c) = refused n
 -- name, is dropped.
 abbrev pub memberName : List ℕ → TypeLib → ℕ → ℕ → Answer Place
 memberName s lib index k =
-    lent s (bind (offsetWord s lib index) (λ href. behind (suc k) s href (matching (length s) s href (namesOf s lib))))
+    lent s (bind (offsetWord s lib index) (λ href. behind (suc k) s href (matching (length s) s href (namesIn lib))))

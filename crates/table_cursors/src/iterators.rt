@@ -14,20 +14,28 @@ use records::impfile::ImpFile;
 use records::impinfo::ImpInfo;
 use records::name::NameEntry;
 use records::typeinfo::TypeInfoEntry;
+use typelib::Numbers;
 use typelib::TypeInfoIndex;
 use typelib::TypeLib;
+use typelib::tables;
 use typelib::typeinfos::TypeInfoAnswer;
 ghost use mathlib.Core.Path.{_≡_};
 ghost use Prim.Native.Nat.{_+_, _-_, _≤_};
 ghost use lib.ListN.{length};
 ghost use Rattle.records.specs.Told.{toldPlace};
-ghost use Rattle.table_cursors.specs.Cursors.{guidStep, importStep, impFileEntry, impFileStep, guidsOf, importsOf, impFilesOf, typeinfoStep, nameEntryFrom, nameEntry, nameStep, namesOf};
+ghost use Rattle.table_cursors.specs.Cursors.{guidStep, importStep, impFileEntry, impFileStep, guidsOf, importsOf, impFilesOf, typeinfosOf, typeinfoStep, nameEntryFrom, nameEntry, nameStep, namesIn, namesOf};
+ghost use Rattle.typelib.specs.Header.{library, typeCount};
 ghost use Rattle.typelib.specs.Tables.{lent};
-ghost use Rattle.table_cursors.specs.Told.{toldGuidStep, toldImportStep, toldImpFileStep, toldTypeInfoStep, toldNameStep, toldNameEntry};
+ghost use Rattle.table_cursors.specs.Told.{toldGuids, toldGuidStep, toldImports, toldImportStep, toldImpFiles, toldImpFileStep, toldTypeInfos, toldTypeInfoStep, toldNames, toldNameStep, toldNameEntry};
 
 pub struct GuidCursor {
     pub pos: usize,
     pub end: usize,
+}
+
+pub enum GuidsAnswer {
+    Value(GuidCursor),
+    Refused(u8),
 }
 
 pub enum GuidStep {
@@ -40,6 +48,11 @@ pub struct ImportCursor {
     pub end: usize,
 }
 
+pub enum ImportsAnswer {
+    Value(ImportCursor),
+    Refused(u8),
+}
+
 pub enum ImportStep {
     Record(ImpInfo, ImportCursor),
     Refused(u8, ImportCursor),
@@ -48,6 +61,11 @@ pub enum ImportStep {
 pub struct ImpFileCursor {
     pub pos: usize,
     pub end: usize,
+}
+
+pub enum ImpFilesAnswer {
+    Value(ImpFileCursor),
+    Refused(u8),
 }
 
 pub enum ImpFileStep {
@@ -62,6 +80,11 @@ pub struct NameCursor {
     pub start: usize,
 }
 
+pub enum NamesAnswer {
+    Value(NameCursor),
+    Refused(u8),
+}
+
 pub enum NameStep {
     Record(NameEntry, NameCursor),
     Refused(u8, NameCursor),
@@ -73,7 +96,12 @@ pub enum NameEntryAnswer {
 }
 
 pub struct TypeInfoCursor {
-    pub index: usize,
+    pub index: TypeInfoIndex,
+}
+
+pub enum TypeInfosAnswer {
+    Value(TypeInfoCursor),
+    Refused(u8),
 }
 
 pub enum TypeInfoStep {
@@ -82,50 +110,73 @@ pub enum TypeInfoStep {
 }
 
 // The typeinfos of the library.
-pub fn typeinfos() -> TypeInfoCursor
-    ensures { λ r. ⌜ r .index ≡ 0 ⌝ }
+pub fn typeinfos(s: &[u8]) -> TypeInfosAnswer
+    ensures { λ r. ⌜ toldTypeInfos r ≡ typeinfosOf (now (s .entry)) ⌝ }
 {
-    TypeInfoCursor { index: 0 }
+    if LIMIT < s.len() {
+        return TypeInfosAnswer::Refused(1);
+    }
+    let index = TypeInfoIndex(0);
+    TypeInfosAnswer::Value(TypeInfoCursor { index })
 }
 
 // The entries of the GUID table.
-pub fn guids(lib: TypeLib, s: &[u8]) -> GuidCursor
-    ensures { λ r. ⌜ r ≡ guidsOf (now (s .entry)) lib ⌝ }
+pub fn guids(lib: TypeLib, s: &[u8]) -> GuidsAnswer
+    ensures { λ r. ⌜ toldGuids r ≡ guidsOf (now (s .entry)) lib ⌝ }
 {
-    let table = lib.table(s, 5);
-    GuidCursor {
+    if LIMIT < s.len() {
+        return GuidsAnswer::Refused(1);
+    }
+    let table = tables::table(&lib.numbers, 5);
+    GuidsAnswer::Value(GuidCursor {
         pos: table.at,
         end: table.at + table.len,
-    }
+    })
 }
 
 // The import records.
-pub fn imports(lib: TypeLib, s: &[u8]) -> ImportCursor
-    ensures { λ r. ⌜ r ≡ importsOf (now (s .entry)) lib ⌝ }
+pub fn imports(lib: TypeLib, s: &[u8]) -> ImportsAnswer
+    ensures { λ r. ⌜ toldImports r ≡ importsOf (now (s .entry)) lib ⌝ }
 {
-    let table = lib.table(s, 1);
-    ImportCursor {
+    if LIMIT < s.len() {
+        return ImportsAnswer::Refused(1);
+    }
+    let table = tables::table(&lib.numbers, 1);
+    ImportsAnswer::Value(ImportCursor {
         pos: table.at,
         end: table.at + table.len,
-    }
+    })
 }
 
 // The import files.
-pub fn imp_files(lib: TypeLib, s: &[u8]) -> ImpFileCursor
-    ensures { λ r. ⌜ r ≡ impFilesOf (now (s .entry)) lib ⌝ }
+pub fn imp_files(lib: TypeLib, s: &[u8]) -> ImpFilesAnswer
+    ensures { λ r. ⌜ toldImpFiles r ≡ impFilesOf (now (s .entry)) lib ⌝ }
 {
-    let table = lib.table(s, 2);
-    ImpFileCursor {
+    if LIMIT < s.len() {
+        return ImpFilesAnswer::Refused(1);
+    }
+    let table = tables::table(&lib.numbers, 2);
+    ImpFilesAnswer::Value(ImpFileCursor {
         pos: table.at,
         end: table.at + table.len,
-    }
+    })
 }
 
 // The entries of the name table.
-pub fn names(lib: TypeLib, s: &[u8]) -> NameCursor
-    ensures { λ r. ⌜ r ≡ namesOf (now (s .entry)) lib ⌝ }
+pub fn names(lib: TypeLib, s: &[u8]) -> NamesAnswer
+    ensures { λ r. ⌜ toldNames r ≡ namesOf (now (s .entry)) lib ⌝ }
 {
-    let table = lib.table(s, 7);
+    if LIMIT < s.len() {
+        return NamesAnswer::Refused(1);
+    }
+    NamesAnswer::Value(names_in(&lib.numbers))
+}
+
+// The same where the length of the bytes was looked at.
+pub(crate) fn names_in(lib: &Numbers) -> NameCursor
+    ensures { λ r. ⌜ r ≡ namesIn (library (now (lib .entry))) ⌝ }
+{
+    let table = tables::table(lib, 7);
     NameCursor {
         pos: table.at,
         end: table.at + table.len,
@@ -225,11 +276,12 @@ impl TypeInfoCursor {
         if LIMIT < s.len() {
             return TypeInfoStep::Refused(1, self);
         }
-        if lib.count as usize <= index {
+        if lib.count() as usize <= index.0 {
             return TypeInfoStep::Refused(9, self);
         }
-        let next = TypeInfoCursor { index: index + 1 };
-        match lib.typeinfo(s, TypeInfoIndex(index)) {
+        let behind = TypeInfoIndex(index.0 + 1);
+        let next = TypeInfoCursor { index: behind };
+        match lib.typeinfo(s, index) {
             TypeInfoAnswer::Value(ti) => TypeInfoStep::Record(ti, next),
             TypeInfoAnswer::Refused(n) => TypeInfoStep::Refused(n, next),
         }
@@ -237,13 +289,14 @@ impl TypeInfoCursor {
 
     // How many typeinfos are left.
     pub fn size_hint(self, lib: TypeLib) -> usize
-        ensures { λ r. ⌜ r ≡ lib .count - self .index ⌝ }
+        ensures { λ r. ⌜ r ≡ typeCount lib - self .index .0 ⌝ }
     {
-        let count = lib.count as usize;
-        if count < self.index {
+        let count = lib.count() as usize;
+        let index = self.index;
+        if count < index.0 {
             0
         } else {
-            count - self.index
+            count - index.0
         }
     }
 }

@@ -3,10 +3,12 @@ use crate::iterators;
 use crate::iterators::NameCursor;
 use crate::iterators::NameStep;
 use records::answer::PlaceAnswer;
-use records::answer::U32Answer;
 use records::field::LIMIT;
 use typelib::TypeInfoIndex;
+use typelib::TypeInfoOffset;
 use typelib::TypeLib;
+use typelib::tables;
+use typelib::typeinfos::OffsetAnswer;
 ghost use mathlib.Core.Path.{_≡_};
 ghost use Prim.Native.Nat.{suc};
 ghost use lib.ListN.{length};
@@ -22,25 +24,25 @@ pub fn member_name(lib: TypeLib, s: &[u8], index: TypeInfoIndex, k: usize) -> Pl
     if LIMIT < s.len() {
         return PlaceAnswer::Refused(1);
     }
-    match lib.offset_word(s, index.0) {
-        U32Answer::Value(href) => match next_match(s, href, iterators::names(lib, s)) {
-            NameStep::Record(_, c) => match_behind(s, href, k, next_match(s, href, c)),
+    match tables::offset_word(&lib.numbers, s, index) {
+        OffsetAnswer::Value(own) => match next_match(s, own, iterators::names_in(&lib.numbers)) {
+            NameStep::Record(_, c) => match_behind(s, own, k, next_match(s, own, c)),
             NameStep::Refused(n, _) => PlaceAnswer::Refused(n),
         },
-        U32Answer::Refused(n) => PlaceAnswer::Refused(n),
+        OffsetAnswer::Refused(n) => PlaceAnswer::Refused(n),
     }
 }
 
-// The first entry from the cursor on that has that hreftype.
-fn next_match(s: &[u8], href: u32, from: NameCursor) -> NameStep
-    ensures { λ r. ⌜ toldNameStep r ≡ matching (length (now (s .entry))) (now (s .entry)) href from ⌝ }
+// The first entry from the cursor on whose hreftype is that offset.
+fn next_match(s: &[u8], own: TypeInfoOffset, from: NameCursor) -> NameStep
+    ensures { λ r. ⌜ toldNameStep r ≡ matching (length (now (s .entry))) (now (s .entry)) (own .0) from ⌝ }
 {
     let mut c = from;
     let mut left = s.len();
     while 0 < left {
         match c.step(s) {
             NameStep::Record(entry, next) => {
-                if util::unsigned32(entry.hreftype) == href {
+                if util::unsigned32(entry.hreftype) == own.0 {
                     return NameStep::Record(entry, next);
                 }
                 c = next;
@@ -55,8 +57,8 @@ fn next_match(s: &[u8], href: u32, from: NameCursor) -> NameStep
 }
 
 // The text of match `k` behind the one that was found.
-fn match_behind(s: &[u8], href: u32, k: usize, first: NameStep) -> PlaceAnswer
-    ensures { λ r. ⌜ toldPlace r ≡ behind k (now (s .entry)) href (toldNameStep first) ⌝ }
+fn match_behind(s: &[u8], own: TypeInfoOffset, k: usize, first: NameStep) -> PlaceAnswer
+    ensures { λ r. ⌜ toldPlace r ≡ behind k (now (s .entry)) (own .0) (toldNameStep first) ⌝ }
 {
     let mut found = first;
     let mut left = k;
@@ -67,7 +69,7 @@ fn match_behind(s: &[u8], href: u32, k: usize, first: NameStep) -> PlaceAnswer
                     let text = entry.text;
                     return PlaceAnswer::Value(text);
                 }
-                found = next_match(s, href, c);
+                found = next_match(s, own, c);
                 left = left - 1;
             }
             NameStep::Refused(n, _) => {

@@ -12,7 +12,7 @@ const-at-requires : tie.Need-const-at-requires
 const-at-requires c κs = search needs
 
 returns : tie.Need-returns
-returns c = c .const-at .ensures ∙ ap (constAt (c .before .before .before .args .s .now) (c .before .before .before .args .lib)) (pattern (c .before .before .before .args .word) _ (c .before .before .before .fits .word) (c .before .unsigned32 .ensures))
+returns c = c .const-at .ensures ∙ ap (constAt (c .before .before .before .before .before .args .s .now) (c .before .before .before .before .before .args .t1)) (pattern (c .before .before .before .before .before .args .word) _ (c .before .before .before .before .before .fits .word) (c .before .unsigned32 .ensures))
 
 pub const-value-spec : {M : Type 1} → statement M
 const-value-spec = tie.close (tie.spec unsigned32-requires const-at-requires returns)

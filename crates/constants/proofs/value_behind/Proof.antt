@@ -1,3 +1,4 @@
+use Rattle.typelib.specs.Header.{library}
 use Rattle.constants.specs.Constants.{storedWidth, constantOf, textBehind}
 use Rattle.constants.specs.ConstantLaws.{value-text, value-decimal, value-number}
 use Rattle.typelib.specs.Tables.{tablePlace}
@@ -15,11 +16,11 @@ use Rattle.constants.proofs.value_behind.Statement.{statement}
 use Rattle.constants.proofs.value_behind.Tie as tie
 
 -- the place of the code and the value behind it
-given : (c : tie.After-struct-known) → value (c .before .before .place .given .0 .0) ≡ tablePlace false (c .before .before .before .before .before .before .before .args .s .now) (c .before .before .before .before .before .before .before .args .lib) 11 (c .before .before .before .before .before .before .before .args .offset) (2 + storedWidth (c .before .before .before .before .before .before .before .args .vt))
+given : (c : tie.After-struct-known) → value (c .before .before .place .given .0 .0) ≡ tablePlace false (c .before .before .before .before .before .before .before .args .s .now) (library (c .before .before .before .before .before .before .before .args .lib .now)) 11 (c .before .before .before .before .before .before .before .args .offset) (2 + storedWidth (c .before .before .before .before .before .before .before .args .vt))
 given c =
     let a = c .before .before .before .before .before .before .before .args in
     tells toldPlace (c .before .before .place .given .1) (c .before .before .before .before .table-place .ensures)
-    ∙ ap (λ (n : ℕ). tablePlace false (a .s .now) (a .lib) 11 (a .offset) (2 + n)) (c .before .before .before .before .before .stored-width .ensures .0)
+    ∙ ap (λ (n : ℕ). tablePlace false (a .s .now) (library (a .lib .now)) 11 (a .offset) (2 + n)) (c .before .before .before .before .before .stored-width .ensures .0)
 
 here : (c : tie.After-struct-known) → Here (c .before .before .before .before .before .before .before .args .s .now) (2 + storedWidth (c .before .before .before .before .before .before .before .args .vt)) (c .before .before .place .given .0 .0)
 here c = found false _ _ _ _ _ _ (given c)
@@ -62,7 +63,7 @@ returns c =
     let w = ap storedWidth (c .before .before .match2 .keys1) in
     bind-value _ _ _ _ (given (c .before .before .before))
     (value-text _ _ _ _ _ _ (c .before .before .match2 .keys1)
-    (c .text-behind .ensures ∙ ap (textBehind (a .s .now) (a .lib) (a .offset)) (read-zero 4 (a .s .now) _ _ (omega arith) (c .before .u32-or-zero .ensures))))
+    (c .text-behind .ensures ∙ ap (textBehind (a .s .now) (library (a .lib .now)) (a .offset)) (read-zero 4 (a .s .now) _ _ (omega arith) (c .before .u32-or-zero .ensures))))
 
 returns-2 : tie.Need-returns-2
 returns-2 c = bind-value _ _ _ _ (given (c .before)) (value-decimal _ _ _ _ _ (c .match2 .keys2))
@@ -78,7 +79,7 @@ returns-4 : tie.Need-returns-4
 returns-4 c =
     let a = c .before .before .before .before .before .before .args in
     bind-refused _ _ _ (tells toldPlace (c .before .n .given .1) (c .before .before .before .table-place .ensures)
-    ∙ ap (λ (n : ℕ). tablePlace false (a .s .now) (a .lib) 11 (a .offset) (2 + n)) (c .before .before .before .before .stored-width .ensures .0))
+    ∙ ap (λ (n : ℕ). tablePlace false (a .s .now) (library (a .lib .now)) 11 (a .offset) (2 + n)) (c .before .before .before .before .stored-width .ensures .0))
 
 pub value-behind-spec : {M : Type 1} → statement M
 value-behind-spec =
