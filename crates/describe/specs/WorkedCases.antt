@@ -1,23 +1,30 @@
--- The worked cases of document 01 that are to be proved, as rows of one list.
+-- The worked cases of document 01 that are to be proved, and a library beside other bytes than those it was parsed from, as rows
+-- of one list.
 use mathlib.Core.Path.{_≡_, refl}
 use mathlib.Core.List.{List, [], _∷_, map}
 use Prim.Native.Nat.{ℕ, _-_}
 use lib.IntN.{pos, negsuc}
 use lib.ListN.{replicate, set, take}
-use Rattle.util.specs.Read.{le}
+use Rattle.util.specs.Read.{le, read}
 use Rattle.records.specs.declared.types.ConstValue.{ConstValue}
 use Rattle.records.specs.declared.types.ConstValue.the-variants as const
+use Rattle.records.specs.declared.answer.Place.{Place}
 use Rattle.records.specs.Answer.{Answer, value, refused}
 use Rattle.typelib.specs.Header.{parseOf, parsed, libraryOf}
-use Rattle.typelib.specs.Tables.{lent}
+use Rattle.typelib.specs.Tabulate.{tabulate}
+use Rattle.typelib.specs.Tables.{lent, segmentPlace, segmentOf, placeIn}
+use Rattle.typelib.specs.Names.{guidPlace}
+use Rattle.typelib.specs.TypeInfos.{offsetWord, typeinfoIn, typeinfoOf}
 use Rattle.typelib.specs.References.{Resolved, internal, internalIndex, resolvedAt, hrefResolved}
 use Rattle.constants.specs.Constants.{constantOf, inlineCode, constAt}
 
--- what a case is about: the number that `parse` replies, what `const_value` answers, what `resolve_hreftype_full` answers
+-- what a case is about: the number that `parse` replies, what `const_value` answers, what `resolve_hreftype_full` answers, where a
+-- record lies
 pub data Reply : Type 0 where
   parse : ℕ → Reply
   constant : Answer ConstValue → Reply
   reference : Answer Resolved → Reply
+  lies : Answer Place → Reply
 
 -- what the definitions give, and what document 01 says
 infix 20 _gives_
@@ -35,12 +42,26 @@ library n = take n (0x4d ∷ 0x53 ∷ 0x46 ∷ 0x54 ∷ replicate (n - 4) 0)
 abbrev pub parsing : List ℕ → Reply
 parsing s = parse (parsed (parseOf s) .number)
 
--- over the smallest library, and one like it of two types
+-- over the smallest library
 abbrev pub inlined : ℕ → Reply
 inlined word = constant (constAt (library 324) (libraryOf (library 324)) word)
 
+-- over the smallest library of two types
+abbrev pub two : List ℕ
+two = set (library 332) 32 2
+
 abbrev pub referred : ℕ → Reply
-referred href = reference (hrefResolved (library 324) (record { count = 2; table = 84 }) href)
+referred href = reference (hrefResolved two (libraryOf two) href)
+
+-- a library whose segment 5 is its last sixteen bytes, and what the library of `own` finds beside `s`
+abbrev pub withGuid : List ℕ
+withGuid = set (set (set (library 340) 164 0x44) 165 0x01) 168 16
+
+abbrev pub guidBeside : List ℕ → List ℕ → Reply
+guidBeside own s = lies (guidPlace s (libraryOf own) 0)
+
+abbrev pub typeinfoBeside : List ℕ → List ℕ → Reply
+typeinfoBeside own s = lies (typeinfoOf s (libraryOf own) 1)
 
 abbrev pub rows : List Row
 rows =
@@ -57,8 +78,15 @@ rows =
     ∷ (referred 4 gives reference (value (internal 0)))
     ∷ (referred 100 gives reference (value (internal 1)))
     ∷ (referred 200 gives reference (refused 9))
+    ∷ (guidBeside withGuid withGuid gives lies (value (record { at = 324; len = 16 })))
+    ∷ (guidBeside withGuid (library 340) gives lies (value (record { at = 324; len = 16 })))
+    ∷ (guidBeside withGuid (library 339) gives lies (refused 9))
+    ∷ (guidBeside (library 340) withGuid gives lies (refused 9))
+    ∷ (typeinfoBeside two (library 332) gives lies (refused 7))
+    ∷ (typeinfoBeside two (library 91) gives lies (refused 6))
+    ∷ (typeinfoBeside (library 332) two gives lies (refused 6))
     ∷ []
 
 pub edges : map (λ (r : Row). r .defined) rows ≡ map (λ (r : Row). r .said) rows
-unfolding le parseOf lent constantOf inlineCode internalIndex resolvedAt
+unfolding le read parseOf libraryOf tabulate lent segmentOf segmentPlace placeIn offsetWord typeinfoIn constantOf inlineCode internalIndex resolvedAt
 edges = refl
