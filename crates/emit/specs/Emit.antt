@@ -58,6 +58,10 @@ pub record Emitted (x : Answer Bytes) (t : Put) (o : List ℕ) (r : Put) (o′ :
   pub lays : Laid t x o o′
   pub keeps : length o′ ≡ length o
 
+-- the same with the numbers that stand for the two places in the code
+abbrev pub Emits : Answer Bytes → ℕ → List ℕ → ℕ → List ℕ → Type 0
+Emits x to o r o′ = Emitted x (put to) o (put r) o′
+
 -- bytes that went over what stood at the place t, where there is room for them; nothing else of the output changed
 pub record Overwritten (bs : Bytes) (t : Put) (o o′ : List ℕ) : Type 0 where
   pub over : (p : ℕ) → t ≡ At p → p + length bs ≤ limit → p + length bs ≤ length o → o′ ≡ sets o p bs

@@ -1,7 +1,9 @@
 // The contents and the bodies of a sheet. The contents are the count of types and the length of each body; a length is known
 // once its body is emitted, and is put into the contents then.
 use sheet_trees::values;
-use typelib::TypeLib;
+use typelib::Numbers;
+use typelib::TypeInfoIndex;
+use typelib::tables;
 ghost use mathlib.Core.Path.{_≡_};
 ghost use Prim.Native.Nat.{_+_, _*_, _≤_};
 ghost use Rattle.records.specs.Answer.{value};
@@ -19,32 +21,32 @@ const LIBRARY_LENGTH: usize = 4;
 const TYPE_LENGTHS: usize = 8;
 
 // The whole sheet, unless it passes the place `most`: then the last place, and what was emitted is of no use.
-pub(crate) fn put_sheet(s: &[u8], lib: TypeLib, most: usize, out: &mut [u8]) -> usize
-    requires { ⌜ lib .count ≤ 65535 ⌝ }
-    ensures { λ r. ⌜ Within most r (now (out .entry)) (now (out .exit)) (Emitted (sheetEmitted (now (s .entry)) lib) (put 0) (now (out .entry)) (put r) (now (out .exit))) ⌝ }
+pub(crate) fn put_sheet(s: &[u8], lib: &Numbers, most: usize, out: &mut [u8]) -> usize
+    requires { ⌜ typeCount (library (now lib)) ≤ 65535 ⌝ }
+    ensures { λ r. ⌜ SheetPut (now (s .entry)) (library (now (lib .entry))) most (now (out .entry)) r (now (out .exit)) ⌝ }
 {
-    let count = lib.count as usize;
-    emit::put_le(out, 0, lib.count as u64, 4);
-    let start = TYPE_LENGTHS + 4 * count;
+    let count = tables::count(lib);
+    emit::put_le(out, 0, count as u64, 4);
+    let start = TYPE_LENGTHS + 4 * (count as usize);
     let t = put_header(&*s, lib, out, start);
     patch(start, t, LIBRARY_LENGTH, out);
     put_types(&*s, lib, most, out, t)
 }
 
 // Where the whole sheet would end, or its refusal.
-pub(crate) fn end_of_sheet(s: &[u8], lib: TypeLib) -> usize
-    requires { ⌜ lib .count ≤ 65535 ⌝ }
-    ensures { λ r. ⌜ put r ≡ moved (put 0) (sheetEmitted (now (s .entry)) lib) ⌝ }
+pub(crate) fn end_of_sheet(s: &[u8], lib: &Numbers) -> usize
+    requires { ⌜ typeCount (library (now lib)) ≤ 65535 ⌝ }
+    ensures { λ r. ⌜ put r ≡ moved (put 0) (sheetEmitted (now (s .entry)) (library (now (lib .entry)))) ⌝ }
 {
     let mut none = [0u8; 0];
-    let start = TYPE_LENGTHS + 4 * (lib.count as usize);
+    let start = TYPE_LENGTHS + 4 * (tables::count(lib) as usize);
     let t = put_header(&*s, lib, &mut none, start);
     sheet_sizes::types(&*s, lib, t)
 }
 
 // The library's own body.
-fn put_header(s: &[u8], lib: TypeLib, out: &mut [u8], to: usize) -> usize
-    ensures { λ r. ⌜ Emitted (value (encode header (headerOf (now (s .entry)) lib))) (put to) (now (out .entry)) (put r) (now (out .exit)) ⌝ }
+fn put_header(s: &[u8], lib: &Numbers, out: &mut [u8], to: usize) -> usize
+    ensures { λ r. ⌜ Emits (headerEmitted (now (s .entry)) (library (now (lib .entry)))) to (now (out .entry)) r (now (out .exit)) ⌝ }
 {
     let t = emit::copy_u32(&*s, 0, 0x0C, out, to);
     let t = emit::copy_u32(&*s, 0, 0x18, out, t);
@@ -54,18 +56,18 @@ fn put_header(s: &[u8], lib: TypeLib, out: &mut [u8], to: usize) -> usize
 
 // The bodies of all types, from `to` on, with their lengths in the contents, unless they pass the place `most`. (That ends it at once,
 // and so does a refusal: nothing is emitted behind one.)
-fn put_types(s: &[u8], lib: TypeLib, most: usize, out: &mut [u8], to: usize) -> usize
-    requires { ⌜ lib .count ≤ 65535 ⌝ }
-    ensures { λ r. ⌜ Within most r (now (out .entry)) (now (out .exit)) (Twofold (lensOf (typeInfo edition-one (lib .count)) (typesFrom (now (s .entry)) lib (lib .count) 0)) (layAll (typeInfo edition-one (lib .count)) (typesFrom (now (s .entry)) lib (lib .count) 0)) 8 (put to) (now (out .entry)) (put r) (now (out .exit))) ⌝ }
+fn put_types(s: &[u8], lib: &Numbers, most: usize, out: &mut [u8], to: usize) -> usize
+    requires { ⌜ typeCount (library (now lib)) ≤ 65535 ⌝ }
+    ensures { λ r. ⌜ BodiesPut (now (s .entry)) (library (now (lib .entry))) most to (now (out .entry)) r (now (out .exit)) ⌝ }
 {
-    let count = lib.count as usize;
+    let count = tables::count(lib) as usize;
     let mut t = to;
     let mut i: usize = 0;
     while i < count {
         if most < t {
             return if t < emit::PAST { emit::PAST } else { t };
         }
-        let end = sheet_types::put_type_of(&*s, lib, i, out, t);
+        let end = sheet_types::put_type_of(&*s, lib, TypeInfoIndex(i), out, t);
         patch(t, end, TYPE_LENGTHS + 4 * i, out);
         t = end;
         i += 1;

@@ -1,6 +1,7 @@
 // The sheet of a library: its description laid out in bytes (document 01, "The sheet (added)"). Two sheets are equal exactly
 // when the two libraries have the same description (`demand-3` of describe/specs/Demand3.antt, over this call's contract).
 use records::answer::UsizeAnswer;
+use typelib::Numbers;
 use typelib::TypeLib;
 ghost use mathlib.Core.Path.{_≡_};
 ghost use Prim.Native.Nat.{_≤_};
@@ -30,17 +31,17 @@ pub fn sheet(s: &[u8], out: &mut [u8]) -> UsizeAnswer
         return UsizeAnswer::Refused(parsed.number);
     }
     let lib = parsed.lib;
-    if MOST_TYPES < lib.count {
+    if MOST_TYPES < lib.count() {
         return UsizeAnswer::Refused(13);
     }
-    write(&*s, lib, out)
+    write(&*s, &lib.numbers, out)
 }
 
 // A sheet is mostly shorter than its library: that of a short library is made in memory of the call's own, as long as the library may
 // be, and copied when it is whole, so that it need not be measured first.
-fn write(s: &[u8], lib: TypeLib, out: &mut [u8]) -> UsizeAnswer
-    requires { ⌜ lib .count ≤ 65535 ⌝ }
-    ensures { λ r. ⌜ Answered (sheetEmitted (now (s .entry)) lib) (now (out .entry)) (toldUsize r) (now (out .exit)) ⌝ }
+fn write(s: &[u8], lib: &Numbers, out: &mut [u8]) -> UsizeAnswer
+    requires { ⌜ typeCount (library (now lib)) ≤ 65535 ⌝ }
+    ensures { λ r. ⌜ Answered (sheetEmitted (now (s .entry)) (library (now (lib .entry)))) (now (out .entry)) (toldUsize r) (now (out .exit)) ⌝ }
 {
     if s.len() <= SMALL {
         return write_small(s, lib, out);
@@ -52,41 +53,41 @@ fn write(s: &[u8], lib: TypeLib, out: &mut [u8]) -> UsizeAnswer
 }
 
 // (An array is lent as an array first: the prover writes out the elements of one that is lent as a slice where it is made.)
-fn write_small(s: &[u8], lib: TypeLib, out: &mut [u8]) -> UsizeAnswer
-    requires { ⌜ lib .count ≤ 65535 ⌝ }
-    ensures { λ r. ⌜ Answered (sheetEmitted (now (s .entry)) lib) (now (out .entry)) (toldUsize r) (now (out .exit)) ⌝ }
+fn write_small(s: &[u8], lib: &Numbers, out: &mut [u8]) -> UsizeAnswer
+    requires { ⌜ typeCount (library (now lib)) ≤ 65535 ⌝ }
+    ensures { λ r. ⌜ Answered (sheetEmitted (now (s .entry)) (library (now (lib .entry)))) (now (out .entry)) (toldUsize r) (now (out .exit)) ⌝ }
 {
     let mut own = [0u8; SMALL];
     write_in_small(&*s, lib, &mut own, out)
 }
 
-fn write_in_small(s: &[u8], lib: TypeLib, own: &mut [u8; SMALL], out: &mut [u8]) -> UsizeAnswer
-    requires { ⌜ lib .count ≤ 65535 ⌝ }
-    ensures { λ r. ⌜ Answered (sheetEmitted (now (s .entry)) lib) (now (out .entry)) (toldUsize r) (now (out .exit)) ⌝ }
+fn write_in_small(s: &[u8], lib: &Numbers, own: &mut [u8; SMALL], out: &mut [u8]) -> UsizeAnswer
+    requires { ⌜ typeCount (library (now lib)) ≤ 65535 ⌝ }
+    ensures { λ r. ⌜ Answered (sheetEmitted (now (s .entry)) (library (now (lib .entry)))) (now (out .entry)) (toldUsize r) (now (out .exit)) ⌝ }
 {
     write_through(&*s, lib, own, out)
 }
 
-fn write_medium(s: &[u8], lib: TypeLib, out: &mut [u8]) -> UsizeAnswer
-    requires { ⌜ lib .count ≤ 65535 ⌝ }
-    ensures { λ r. ⌜ Answered (sheetEmitted (now (s .entry)) lib) (now (out .entry)) (toldUsize r) (now (out .exit)) ⌝ }
+fn write_medium(s: &[u8], lib: &Numbers, out: &mut [u8]) -> UsizeAnswer
+    requires { ⌜ typeCount (library (now lib)) ≤ 65535 ⌝ }
+    ensures { λ r. ⌜ Answered (sheetEmitted (now (s .entry)) (library (now (lib .entry)))) (now (out .entry)) (toldUsize r) (now (out .exit)) ⌝ }
 {
     let mut own = [0u8; MEDIUM];
     write_in_medium(&*s, lib, &mut own, out)
 }
 
-fn write_in_medium(s: &[u8], lib: TypeLib, own: &mut [u8; MEDIUM], out: &mut [u8]) -> UsizeAnswer
-    requires { ⌜ lib .count ≤ 65535 ⌝ }
-    ensures { λ r. ⌜ Answered (sheetEmitted (now (s .entry)) lib) (now (out .entry)) (toldUsize r) (now (out .exit)) ⌝ }
+fn write_in_medium(s: &[u8], lib: &Numbers, own: &mut [u8; MEDIUM], out: &mut [u8]) -> UsizeAnswer
+    requires { ⌜ typeCount (library (now lib)) ≤ 65535 ⌝ }
+    ensures { λ r. ⌜ Answered (sheetEmitted (now (s .entry)) (library (now (lib .entry)))) (now (out .entry)) (toldUsize r) (now (out .exit)) ⌝ }
 {
     write_through(&*s, lib, own, out)
 }
 
 // (Where members share their bytes a sheet may be much longer than its library. Then it is measured after all, which is quicker than
 // making it.)
-fn write_through(s: &[u8], lib: TypeLib, own: &mut [u8], out: &mut [u8]) -> UsizeAnswer
-    requires { ⌜ lib .count ≤ 65535 ⌝ }
-    ensures { λ r. ⌜ Answered (sheetEmitted (now (s .entry)) lib) (now (out .entry)) (toldUsize r) (now (out .exit)) ⌝ }
+fn write_through(s: &[u8], lib: &Numbers, own: &mut [u8], out: &mut [u8]) -> UsizeAnswer
+    requires { ⌜ typeCount (library (now lib)) ≤ 65535 ⌝ }
+    ensures { λ r. ⌜ Answered (sheetEmitted (now (s .entry)) (library (now (lib .entry)))) (now (out .entry)) (toldUsize r) (now (out .exit)) ⌝ }
 {
     let size = contents::put_sheet(&*s, lib, own.len(), own);
     if size == emit::PAST {
@@ -96,19 +97,19 @@ fn write_through(s: &[u8], lib: TypeLib, own: &mut [u8], out: &mut [u8]) -> Usiz
 }
 
 // Measures first, so that nothing is written unless all of it will be.
-fn write_measured(s: &[u8], lib: TypeLib, out: &mut [u8]) -> UsizeAnswer
-    requires { ⌜ lib .count ≤ 65535 ⌝ }
-    ensures { λ r. ⌜ Answered (sheetEmitted (now (s .entry)) lib) (now (out .entry)) (toldUsize r) (now (out .exit)) ⌝ }
+fn write_measured(s: &[u8], lib: &Numbers, out: &mut [u8]) -> UsizeAnswer
+    requires { ⌜ typeCount (library (now lib)) ≤ 65535 ⌝ }
+    ensures { λ r. ⌜ Answered (sheetEmitted (now (s .entry)) (library (now (lib .entry)))) (now (out .entry)) (toldUsize r) (now (out .exit)) ⌝ }
 {
     let none = [0u8; 0];
     finish(&*s, lib, &none, contents::end_of_sheet(&*s, lib), out)
 }
 
 // Replies for a sheet of that size. It is copied from `made`, or, where it is longer than that, made now.
-fn finish(s: &[u8], lib: TypeLib, made: &[u8], size: usize, out: &mut [u8]) -> UsizeAnswer
-    requires { ⌜ lib .count ≤ 65535 ⌝ }
-    requires { ⌜ Made (sheetEmitted (now s) lib) size (now made) ⌝ }
-    ensures { λ r. ⌜ Answered (sheetEmitted (now (s .entry)) lib) (now (out .entry)) (toldUsize r) (now (out .exit)) ⌝ }
+fn finish(s: &[u8], lib: &Numbers, made: &[u8], size: usize, out: &mut [u8]) -> UsizeAnswer
+    requires { ⌜ typeCount (library (now lib)) ≤ 65535 ⌝ }
+    requires { ⌜ Made (sheetEmitted (now s) (library (now lib))) size (now made) ⌝ }
+    ensures { λ r. ⌜ Answered (sheetEmitted (now (s .entry)) (library (now (lib .entry)))) (now (out .entry)) (toldUsize r) (now (out .exit)) ⌝ }
 {
     if emit::PAST < size {
         return UsizeAnswer::Refused(((size - emit::PAST - 1) % 256) as u8);

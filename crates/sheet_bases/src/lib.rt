@@ -7,7 +7,7 @@ use records::refrecord::RefRecord;
 use records::typeinfo::TypeInfoEntry;
 use sheet_trees::references;
 use sheet_trees::trees;
-use typelib::TypeLib;
+use typelib::Numbers;
 ghost use mathlib.Core.Path.{_≡_};
 ghost use Rattle.records.specs.Answer.{value, map};
 ghost use Rattle.impltypes.specs.Chain.{walkOf, toldWalk};
@@ -20,13 +20,13 @@ ghost use Rattle.sheet_bases.specs.Bases.{baseEmitted, chainEmitted, lin
 // The base of a type of that kind.
 pub fn put_base(
     s: &[u8],
-    lib: TypeLib,
+    lib: &Numbers,
     ti: TypeInfoEntry,
     kind: u32,
     out: &mut [u8],
     to: usize,
 ) -> usize
-    ensures { λ r. ⌜ Emitted (baseEmitted (now (s .entry)) lib ti kind) (put to) (now (out .entry)) (put r) (now (out .exit)) ⌝ }
+    ensures { λ r. ⌜ Emits (baseEmitted (now (s .entry)) (library (now (lib .entry))) ti kind) to (now (out .entry)) r (now (out .exit)) ⌝ }
 {
     match kind {
         3 => references::put_reference(&*s, lib, emit::word_at(&*s, ti.at, 0x54), out, to),
@@ -38,10 +38,10 @@ pub fn put_base(
 }
 
 // The chain of implemented types: how many the full walk takes, and each; 10 where it comes round.
-fn put_chain(s: &[u8], lib: TypeLib, ti: TypeInfoEntry, out: &mut [u8], to: usize) -> usize
-    ensures { λ r. ⌜ Emitted (map (encode (list u32 (implType edition-one (lib .count)))) (implTypesAt (now (s .entry)) lib ti)) (put to) (now (out .entry)) (put r) (now (out .exit)) ⌝ }
+fn put_chain(s: &[u8], lib: &Numbers, ti: TypeInfoEntry, out: &mut [u8], to: usize) -> usize
+    ensures { λ r. ⌜ Emits (implTypesEmitted (now (s .entry)) (library (now (lib .entry))) ti) to (now (out .entry)) r (now (out .exit)) ⌝ }
 {
-    match impltypes::impl_types(lib, &*s, ti) {
+    match impltypes::impl_types_at(lib, &*s, ti) {
         ImplTypesAnswer::Value(cursor) => put_walked(&*s, lib, cursor, cursor.walk(&*s), out, to),
         ImplTypesAnswer::Refused(n) => emit::put_refusal(to, n),
     }
@@ -49,14 +49,14 @@ fn put_chain(s: &[u8], lib: TypeLib, ti: TypeInfoEntry, out: &mut [u8], to: usiz
 
 fn put_walked(
     s: &[u8],
-    lib: TypeLib,
+    lib: &Numbers,
     cursor: ImplTypeCursor,
     walk: WalkAnswer,
     out: &mut [u8],
     to: usize,
 ) -> usize
     requires { ⌜ toldWalk walk ≡ walkOf (now s) cursor ⌝ }
-    ensures { λ r. ⌜ Emitted (chainEmitted (now (s .entry)) lib cursor) (put to) (now (out .entry)) (put r) (now (out .exit)) ⌝ }
+    ensures { λ r. ⌜ Emits (chainEmitted (now (s .entry)) (library (now (lib .entry))) cursor) to (now (out .entry)) r (now (out .exit)) ⌝ }
 {
     match walk {
         WalkAnswer::Took(count) => {
@@ -70,14 +70,14 @@ fn put_walked(
 // The `count` records that the walk took.
 fn put_links(
     s: &[u8],
-    lib: TypeLib,
+    lib: &Numbers,
     cursor: ImplTypeCursor,
     count: usize,
     out: &mut [u8],
     to: usize,
 ) -> usize
     requires { ⌜ value count ≡ walkOf (now s) cursor ⌝ }
-    ensures { λ r. ⌜ Emitted (value (linksBytes (now (s .entry)) lib cursor count 0)) (put to) (now (out .entry)) (put r) (now (out .exit)) ⌝ }
+    ensures { λ r. ⌜ Emits (value (linksBytes (now (s .entry)) (library (now (lib .entry))) cursor count 0)) to (now (out .entry)) r (now (out .exit)) ⌝ }
 {
     let mut t = to;
     let mut c = cursor;
@@ -94,12 +94,12 @@ fn put_links(
 }
 
 // A record of the chain: a reference, and its flags.
-fn put_link(s: &[u8], lib: TypeLib, link: RefRecord, out: &mut [u8], to: usize) -> usize
-    ensures { λ r. ⌜ Emitted (value (encode (implType edition-one (lib .count)) (implTypeAt (now (s .entry)) lib (record { at = link .at; len = link .len })))) (put to) (now (out .entry)) (put r) (now (out .exit)) ⌝ }
+fn put_link(s: &[u8], lib: &Numbers, link: RefRecord, out: &mut [u8], to: usize) -> usize
+    ensures { λ r. ⌜ Emits (implTypeEmitted (now (s .entry)) (library (now (lib .entry))) link) to (now (out .entry)) r (now (out .exit)) ⌝ }
 {
     let href = emit::word_at(&*s, link.at, 0x00);
     let t = if util::bits(href, 0, 2) == 0 {
-        references::put_in_this_file(&*s, lib.count, href, out, to)
+        references::put_in_this_file(&*s, lib, href, out, to)
     } else {
         references::put_reference(&*s, lib, href, out, to)
     };

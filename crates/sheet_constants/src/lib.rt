@@ -5,7 +5,7 @@ use records::answer;
 use records::answer::Place;
 use records::answer::PlaceAnswer;
 use records::types::ConstValue;
-use typelib::TypeLib;
+use typelib::Numbers;
 ghost use mathlib.Core.Path.{_≡_};
 ghost use Rattle.records.specs.Answer.{value};
 ghost use Rattle.records.specs.Told.{toldPlace};
@@ -132,7 +132,7 @@ fn place_in(content: Content) -> PlaceAnswer
 
 // A text: byte 0 for null, or byte 1, the length and the bytes.
 fn put_text(s: &[u8], place: PlaceAnswer, out: &mut [u8], to: usize) -> usize
-    ensures { λ r. ⌜ Emitted (value (textBytes (now (s .entry)) (toldPlace place))) (put to) (now (out .entry)) (put r) (now (out .exit)) ⌝ }
+    ensures { λ r. ⌜ Emits (value (textBytes (now (s .entry)) (toldPlace place))) to (now (out .entry)) r (now (out .exit)) ⌝ }
 {
     match place {
         PlaceAnswer::Value(p) => {
@@ -147,7 +147,7 @@ fn put_text(s: &[u8], place: PlaceAnswer, out: &mut [u8], to: usize) -> usize
 
 // The value of a content by a shape.
 fn put_value(s: &[u8], content: Content, shape: Shape, out: &mut [u8], to: usize) -> usize
-    ensures { λ r. ⌜ Emitted (value (valueBytes (now (s .entry)) (toldContent content) (toldShape shape))) (put to) (now (out .entry)) (put r) (now (out .exit)) ⌝ }
+    ensures { λ r. ⌜ Emits (value (valueBytes (now (s .entry)) (toldContent content) (toldShape shape))) to (now (out .entry)) r (now (out .exit)) ⌝ }
 {
     match shape {
         Shape::Empty => to,
@@ -160,7 +160,7 @@ fn put_value(s: &[u8], content: Content, shape: Shape, out: &mut [u8], to: usize
 
 // A constant: its code, and its value by the code's shape.
 pub fn put_constant(s: &[u8], v: ConstValue, out: &mut [u8], to: usize) -> usize
-    ensures { λ r. ⌜ Emitted (value (encode constant (constantFrom (now (s .entry)) v))) (put to) (now (out .entry)) (put r) (now (out .exit)) ⌝ }
+    ensures { λ r. ⌜ Emits (value (encode constant (constantFrom (now (s .entry)) v))) to (now (out .entry)) r (now (out .exit)) ⌝ }
 {
     let code = v.vt();
     let t = emit::put_u16(out, to, code);
@@ -168,8 +168,8 @@ pub fn put_constant(s: &[u8], v: ConstValue, out: &mut [u8], to: usize) -> usize
 }
 
 // The constant that a record's word is or names: byte 0 where there is none, or byte 1 and the constant.
-pub fn put_opt_constant(s: &[u8], lib: TypeLib, word: u32, out: &mut [u8], to: usize) -> usize
-    ensures { λ r. ⌜ Emitted (value (encode (opt constant) (constantOf (now (s .entry)) lib word))) (put to) (now (out .entry)) (put r) (now (out .exit)) ⌝ }
+pub fn put_opt_constant(s: &[u8], lib: &Numbers, word: u32, out: &mut [u8], to: usize) -> usize
+    ensures { λ r. ⌜ Emits (constantEmitted (now (s .entry)) (library (now (lib .entry))) word) to (now (out .entry)) r (now (out .exit)) ⌝ }
 {
     match constants::const_at(lib, &*s, word) {
         ConstAnswer::Value(v) => {

@@ -13,7 +13,7 @@ use sheet_trees::names;
 use sheet_trees::names::Names;
 use sheet_trees::trees;
 use sheet_trees::values;
-use typelib::TypeLib;
+use typelib::Numbers;
 ghost use mathlib.Core.Path.{_≡_};
 ghost use Prim.Native.Nat.{_≤_};
 ghost use lib.ListN.{length};
@@ -32,8 +32,8 @@ ghost use Rattle.sheet_members.specs.Lists.{layAll};
 ghost use Rattle.sheet_members.specs.Words.{functionWords};
 
 // The functions of a type: how many are yielded, and each.
-pub fn put_functions(s: &[u8], lib: TypeLib, ti: TypeInfoEntry, out: &mut [u8], to: usize) -> usize
-    ensures { λ r. ⌜ Emitted (map (encode (list u16 (function edition-one (lib .count)))) (all (functionsOf (now (s .entry)) lib ti))) (put to) (now (out .entry)) (put r) (now (out .exit)) ⌝ }
+pub fn put_functions(s: &[u8], lib: &Numbers, ti: TypeInfoEntry, out: &mut [u8], to: usize) -> usize
+    ensures { λ r. ⌜ Emits (functionsEmitted (now (s .entry)) (library (now (lib .entry))) ti) to (now (out .entry)) r (now (out .exit)) ⌝ }
 {
     match iterators::funcs(&*s, ti) {
         FuncsAnswer::Value(cursor) => {
@@ -55,13 +55,13 @@ pub fn put_functions(s: &[u8], lib: TypeLib, ti: TypeInfoEntry, out: &mut [u8], 
 // the count is not theirs.)
 fn put_each(
     s: &[u8],
-    lib: TypeLib,
+    lib: &Numbers,
     ti: TypeInfoEntry,
     cursor: FuncCursor,
     out: &mut [u8],
     to: usize,
 ) -> Listed
-    ensures { λ r. ⌜ Emitted (layAll (function edition-one (lib .count)) (numbered (functionOf (now (s .entry)) lib ti) 0 (yields (funcStep (now (s .entry))) (cursor .remaining) cursor))) (put to) (now (out .entry)) (put (r .to)) (now (out .exit)) × (r .to ≤ past → r .count ≡ length (yields (funcStep (now (s .entry))) (cursor .remaining) cursor)) ⌝ }
+    ensures { λ r. ⌜ FunctionsPut (now (s .entry)) (library (now (lib .entry))) ti cursor to (now (out .entry)) r (now (out .exit)) ⌝ }
 {
     let rows = words::func_rows(&*s, ti);
     let names = names::names_of(&*s, lib);
@@ -86,7 +86,7 @@ fn put_each(
 // Function `index` of `ti`, with its identifier and the offset of its name.
 fn put_function(
     s: &[u8],
-    lib: TypeLib,
+    lib: &Numbers,
     names: Names,
     ti: TypeInfoEntry,
     index: usize,
@@ -96,10 +96,10 @@ fn put_function(
     out: &mut [u8],
     to: usize,
 ) -> usize
-    requires { ⌜ Near (now s) lib names ⌝ }
+    requires { ⌜ Near (now s) (library (now lib)) names ⌝ }
     requires { ⌜ found (toldI32 memid) ≡ found (signed32 (funcMemid (now s) ti index)) ⌝ }
     requires { ⌜ found (toldI32 «name_offset») ≡ found (signed32 (funcNameOffset (now s) ti index)) ⌝ }
-    ensures { λ r. ⌜ Emitted (map (encode (function edition-one (lib .count))) (functionOf (now (s .entry)) lib ti index (record { at = func .at; len = func .len }))) (put to) (now (out .entry)) (put r) (now (out .exit)) ⌝ }
+    ensures { λ r. ⌜ Emits (functionEmitted (now (s .entry)) (library (now (lib .entry))) ti index func) to (now (out .entry)) r (now (out .exit)) ⌝ }
 {
     let t = values::put_opt_memid(memid, out, to);
     let t = values::put_name_by(&*s, lib, names, name_offset, out, t);
@@ -111,7 +111,7 @@ fn put_function(
 
 // The words of the record at `at` from 0x08 on, as two numbers.
 fn put_words(s: &[u8], at: usize, out: &mut [u8], to: usize) -> usize
-    ensures { λ r. ⌜ Emitted (value (functionWords (now (s .entry)) at)) (put to) (now (out .entry)) (put r) (now (out .exit)) ⌝ }
+    ensures { λ r. ⌜ Emits (value (functionWords (now (s .entry)) at)) to (now (out .entry)) r (now (out .exit)) ⌝ }
 {
     let flags = emit::word_at(&*s, at, 0x08) as u64;
     let vtable_offset = emit::half_at(&*s, at, 0x0C) as u64;

@@ -7,7 +7,7 @@ use records::answer::I32Answer;
 use sheet_trees::names::Names;
 use sheet_trees::trees;
 use sheet_trees::values;
-use typelib::TypeLib;
+use typelib::Numbers;
 ghost use mathlib.Core.Path.{_≡_};
 ghost use Rattle.records.specs.Answer.{value, map};
 ghost use Rattle.records.specs.Told.{toldI32};
@@ -24,14 +24,14 @@ ghost use Rattle.sheet_members.specs.Room.{Room};
 // The parameters of a function: how many are yielded, and each.
 pub(crate) fn put_parameters(
     s: &[u8],
-    lib: TypeLib,
+    lib: &Numbers,
     names: Names,
     func: FuncRecord,
     out: &mut [u8],
     to: usize,
 ) -> usize
-    requires { ⌜ Near (now s) lib names ⌝ }
-    ensures { λ r. ⌜ Emitted (map (encode (list u16 (parameter edition-one (lib .count)))) (all (parametersOf (now (s .entry)) lib func))) (put to) (now (out .entry)) (put r) (now (out .exit)) ⌝ }
+    requires { ⌜ Near (now s) (library (now lib)) names ⌝ }
+    ensures { λ r. ⌜ Emits (parametersEmitted (now (s .entry)) (library (now (lib .entry))) func) to (now (out .entry)) r (now (out .exit)) ⌝ }
 {
     match iterators::params(&*s, func) {
         ParamsAnswer::Value(cursor) => {
@@ -45,16 +45,16 @@ pub(crate) fn put_parameters(
 // Each parameter that the cursor yields. They lie in the function's record, so it is not asked for each of them.
 fn put_each(
     s: &[u8],
-    lib: TypeLib,
+    lib: &Numbers,
     names: Names,
     func: FuncRecord,
     cursor: ParamCursor,
     out: &mut [u8],
     to: usize,
 ) -> usize
-    requires { ⌜ Near (now s) lib names ⌝ }
+    requires { ⌜ Near (now s) (library (now lib)) names ⌝ }
     requires { ⌜ Room (now s) cursor ⌝ }
-    ensures { λ r. ⌜ Emitted (layAll (parameter edition-one (lib .count)) (numbered (parameterOf (now (s .entry)) lib func) 0 (yields (paramStep (now (s .entry))) (cursor .remaining) cursor))) (put to) (now (out .entry)) (put r) (now (out .exit)) ⌝ }
+    ensures { λ r. ⌜ Emits (parametersFrom (now (s .entry)) (library (now (lib .entry))) func cursor) to (now (out .entry)) r (now (out .exit)) ⌝ }
 {
     let mut t = to;
     let mut i: usize = 0;
@@ -68,7 +68,7 @@ fn put_each(
 // Parameter `index` of `func`, at `at`. It has a default value where its flags have 0x20.
 fn put_parameter(
     s: &[u8],
-    lib: TypeLib,
+    lib: &Numbers,
     names: Names,
     func: FuncRecord,
     index: usize,
@@ -76,8 +76,8 @@ fn put_parameter(
     out: &mut [u8],
     to: usize,
 ) -> usize
-    requires { ⌜ Near (now s) lib names ⌝ }
-    ensures { λ r. ⌜ Emitted (map (encode (parameter edition-one (lib .count))) (parameterOf (now (s .entry)) lib func index (record { at = at; len = 12 }))) (put to) (now (out .entry)) (put r) (now (out .exit)) ⌝ }
+    requires { ⌜ Near (now s) (library (now lib)) names ⌝ }
+    ensures { λ r. ⌜ Emits (parameterEmitted (now (s .entry)) (library (now (lib .entry))) func index at) to (now (out .entry)) r (now (out .exit)) ⌝ }
 {
     let flags = emit::word_at(&*s, at, 0x08);
     let field = emit::word_at(&*s, at, 0x00);
@@ -95,12 +95,12 @@ fn put_parameter(
 // The constant that an offset names: missing where the offset is.
 pub fn put_constant_by(
     s: &[u8],
-    lib: TypeLib,
+    lib: &Numbers,
     offset: I32Answer,
     out: &mut [u8],
     to: usize,
 ) -> usize
-    ensures { λ r. ⌜ Emitted (value (encode (opt constant) (constantBy (now (s .entry)) lib (toldI32 offset)))) (put to) (now (out .entry)) (put r) (now (out .exit)) ⌝ }
+    ensures { λ r. ⌜ Emits (constantByEmitted (now (s .entry)) (library (now (lib .entry))) (toldI32 offset)) to (now (out .entry)) r (now (out .exit)) ⌝ }
 {
     let I32Answer::Value(x) = offset else {
         return emit::put_u8(out, to, 0);

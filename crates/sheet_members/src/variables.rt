@@ -9,7 +9,8 @@ use records::answer::I32Answer;
 use records::typeinfo::TypeInfoEntry;
 use sheet_trees::trees;
 use sheet_trees::values;
-use typelib::TypeLib;
+use typelib::Numbers;
+use typelib::typeinfos;
 ghost use mathlib.Core.Path.{_≡_};
 ghost use Prim.Native.Nat.{_≤_};
 ghost use lib.ListN.{length};
@@ -26,8 +27,8 @@ ghost use Rattle.sheet_members.specs.Lists.{layAll};
 ghost use Rattle.sheet_members.specs.Words.{valueBytes};
 
 // The variables of a type: how many are yielded, and each.
-pub fn put_variables(s: &[u8], lib: TypeLib, ti: TypeInfoEntry, out: &mut [u8], to: usize) -> usize
-    ensures { λ r. ⌜ Emitted (map (encode (list u16 (variable edition-one (lib .count)))) (all (variablesOf (now (s .entry)) lib ti))) (put to) (now (out .entry)) (put r) (now (out .exit)) ⌝ }
+pub fn put_variables(s: &[u8], lib: &Numbers, ti: TypeInfoEntry, out: &mut [u8], to: usize) -> usize
+    ensures { λ r. ⌜ Emits (variablesEmitted (now (s .entry)) (library (now (lib .entry))) ti) to (now (out .entry)) r (now (out .exit)) ⌝ }
 {
     match iterators::vars(&*s, ti) {
         VarsAnswer::Value(cursor) => {
@@ -45,13 +46,13 @@ pub fn put_variables(s: &[u8], lib: TypeLib, ti: TypeInfoEntry, out: &mut [u8], 
 // the count is not theirs.)
 fn put_each(
     s: &[u8],
-    lib: TypeLib,
+    lib: &Numbers,
     ti: TypeInfoEntry,
     cursor: VarCursor,
     out: &mut [u8],
     to: usize,
 ) -> Listed
-    ensures { λ r. ⌜ Emitted (layAll (variable edition-one (lib .count)) (numbered (variableOf (now (s .entry)) lib ti) 0 (yields (varStep (now (s .entry))) (cursor .remaining) cursor))) (put to) (now (out .entry)) (put (r .to)) (now (out .exit)) × (r .to ≤ past → r .count ≡ length (yields (varStep (now (s .entry))) (cursor .remaining) cursor)) ⌝ }
+    ensures { λ r. ⌜ VariablesPut (now (s .entry)) (library (now (lib .entry))) ti cursor to (now (out .entry)) r (now (out .exit)) ⌝ }
 {
     let mut t = to;
     let mut c = cursor;
@@ -72,18 +73,18 @@ fn put_each(
 // Variable `index` of `ti`.
 fn put_variable(
     s: &[u8],
-    lib: TypeLib,
+    lib: &Numbers,
     ti: TypeInfoEntry,
     index: usize,
     var: VarRecord,
     out: &mut [u8],
     to: usize,
 ) -> usize
-    ensures { λ r. ⌜ Emitted (map (encode (variable edition-one (lib .count))) (variableOf (now (s .entry)) lib ti index (record { at = var .at; len = var .len }))) (put to) (now (out .entry)) (put r) (now (out .exit)) ⌝ }
+    ensures { λ r. ⌜ Emits (variableEmitted (now (s .entry)) (library (now (lib .entry))) ti index var) to (now (out .entry)) r (now (out .exit)) ⌝ }
 {
     let varkind = emit::half_at(&*s, var.at, 0x0C);
-    let t = values::put_opt_memid(lib.var_memid(&*s, ti, index), out, to);
-    let t = put_name(&*s, lib, lib.var_name_offset(&*s, ti, index), out, t);
+    let t = values::put_opt_memid(typeinfos::var_memid(&*s, ti, index), out, to);
+    let t = put_name(&*s, lib, typeinfos::var_name_offset(&*s, ti, index), out, t);
     let field = emit::word_at(&*s, var.at, 0x04);
     let t = trees::put_tree(&*s, lib, field, out, t);
     let t = emit::copy_u32(&*s, var.at, 0x08, out, t);
@@ -93,8 +94,8 @@ fn put_variable(
 
 // A variable's name: missing where its offset is. (Variables are few, so that no names are looked up for them. They are looked up for
 // functions, whose emitter of names has no other caller, and so is put into them by the compiler.)
-fn put_name(s: &[u8], lib: TypeLib, offset: I32Answer, out: &mut [u8], to: usize) -> usize
-    ensures { λ r. ⌜ Emitted (value (encode (opt name) (nameBy (now (s .entry)) lib (toldI32 offset)))) (put to) (now (out .entry)) (put r) (now (out .exit)) ⌝ }
+fn put_name(s: &[u8], lib: &Numbers, offset: I32Answer, out: &mut [u8], to: usize) -> usize
+    ensures { λ r. ⌜ Emits (nameByEmitted (now (s .entry)) (library (now (lib .entry))) (toldI32 offset)) to (now (out .entry)) r (now (out .exit)) ⌝ }
 {
     let I32Answer::Value(x) = offset else {
         return emit::put_u8(out, to, 0);
@@ -103,8 +104,8 @@ fn put_name(s: &[u8], lib: TypeLib, offset: I32Answer, out: &mut [u8], to: usize
 }
 
 // The word at 0x10: a constant where 0x0C holds 2.
-fn put_value(s: &[u8], lib: TypeLib, varkind: u16, word: u32, out: &mut [u8], to: usize) -> usize
-    ensures { λ r. ⌜ Emitted (value (valueBytes (isConstant varkind) (valueWith (now (s .entry)) lib (isConstant varkind) word))) (put to) (now (out .entry)) (put r) (now (out .exit)) ⌝ }
+fn put_value(s: &[u8], lib: &Numbers, varkind: u16, word: u32, out: &mut [u8], to: usize) -> usize
+    ensures { λ r. ⌜ Emits (valueEmitted (now (s .entry)) (library (now (lib .entry))) varkind word) to (now (out .entry)) r (now (out .exit)) ⌝ }
 {
     if varkind == 2 {
         sheet_constants::put_opt_constant(&*s, lib, word, out, to)

@@ -6,7 +6,7 @@ use records::field::LIMIT;
 use records::refrecord::RefRecord;
 use records::typeinfo::TypeInfoEntry;
 use sheet_trees::references;
-use typelib::TypeLib;
+use typelib::Numbers;
 ghost use mathlib.Core.Path.{_≡_};
 ghost use Rattle.records.specs.Answer.{value, map};
 ghost use Rattle.description.specs.Format.{encode, list};
@@ -16,8 +16,8 @@ ghost use Rattle.sheet_bases.specs.Bases.{baseEmitted, chainEmitted};
 ghost use Rattle.sheet_sizes.specs.Measured.{Measured};
 
 // The base of a type of that kind: by its emitter, over an output with no room, unless it is a chain.
-pub(crate) fn after_base(s: &[u8], lib: TypeLib, ti: TypeInfoEntry, kind: u32, to: usize) -> usize
-    ensures { λ r. ⌜ Measured (baseEmitted (now (s .entry)) lib ti kind) to r ⌝ }
+pub(crate) fn after_base(s: &[u8], lib: &Numbers, ti: TypeInfoEntry, kind: u32, to: usize) -> usize
+    ensures { λ r. ⌜ Measured (baseEmitted (now (s .entry)) (library (now (lib .entry))) ti kind) to r ⌝ }
 {
     if kind == 5 {
         return after_chain(&*s, lib, ti, to);
@@ -27,10 +27,10 @@ pub(crate) fn after_base(s: &[u8], lib: TypeLib, ti: TypeInfoEntry, kind: u32, t
 }
 
 // The chain of implemented types: its count, and each.
-fn after_chain(s: &[u8], lib: TypeLib, ti: TypeInfoEntry, to: usize) -> usize
-    ensures { λ r. ⌜ Measured (map (encode (list u32 (implType edition-one (lib .count)))) (implTypesAt (now (s .entry)) lib ti)) to r ⌝ }
+fn after_chain(s: &[u8], lib: &Numbers, ti: TypeInfoEntry, to: usize) -> usize
+    ensures { λ r. ⌜ Measured (implTypesEmitted (now (s .entry)) (library (now (lib .entry))) ti) to r ⌝ }
 {
-    match impltypes::impl_types(lib, &*s, ti) {
+    match impltypes::impl_types_at(lib, &*s, ti) {
         ImplTypesAnswer::Value(cursor) => after_links(&*s, lib, cursor, to),
         ImplTypesAnswer::Refused(n) => emit::put_refusal(to, n),
     }
@@ -38,8 +38,8 @@ fn after_chain(s: &[u8], lib: TypeLib, ti: TypeInfoEntry, to: usize) -> usize
 
 // The chain from a cursor on; 10 where it comes round. What its count is matters to nothing here, so the chain is not walked first:
 // its records are measured on the way. (There is room for no more than length - 15 records at different offsets.)
-fn after_links(s: &[u8], lib: TypeLib, cursor: ImplTypeCursor, to: usize) -> usize
-    ensures { λ r. ⌜ Measured (chainEmitted (now (s .entry)) lib cursor) to r ⌝ }
+fn after_links(s: &[u8], lib: &Numbers, cursor: ImplTypeCursor, to: usize) -> usize
+    ensures { λ r. ⌜ Measured (chainEmitted (now (s .entry)) (library (now (lib .entry))) cursor) to r ⌝ }
 {
     if LIMIT < s.len() {
         return emit::put_refusal(to, 1);
@@ -61,13 +61,13 @@ fn after_links(s: &[u8], lib: TypeLib, cursor: ImplTypeCursor, to: usize) -> usi
 }
 
 // A record of the chain: a reference, and its flags.
-fn after_link(s: &[u8], lib: TypeLib, link: RefRecord, to: usize) -> usize
-    ensures { λ r. ⌜ Measured (value (encode (implType edition-one (lib .count)) (implTypeAt (now (s .entry)) lib (record { at = link .at; len = link .len })))) to r ⌝ }
+fn after_link(s: &[u8], lib: &Numbers, link: RefRecord, to: usize) -> usize
+    ensures { λ r. ⌜ Measured (implTypeEmitted (now (s .entry)) (library (now (lib .entry))) link) to r ⌝ }
 {
     let href = emit::word_at(s, link.at, 0x00);
     let mut none = [0u8; 0];
     let t = if util::bits(href, 0, 2) == 0 {
-        references::put_in_this_file(&*s, lib.count, href, &mut none, to)
+        references::put_in_this_file(&*s, lib, href, &mut none, to)
     } else {
         references::put_reference(&*s, lib, href, &mut none, to)
     };

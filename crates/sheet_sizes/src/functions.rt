@@ -11,7 +11,7 @@ use records::answer::I32Answer;
 use records::typeinfo::TypeInfoEntry;
 use sheet_members::words;
 use sheet_trees::names::Names;
-use typelib::TypeLib;
+use typelib::Numbers;
 ghost use mathlib.Core.Path.{_≡_};
 ghost use Prim.Native.Nat.{ℕ};
 ghost use Rattle.records.specs.Answer.{value, map};
@@ -28,8 +28,8 @@ ghost use Rattle.sheet_trees.specs.Names.{Near};
 ghost use Rattle.sheet_sizes.specs.Measured.{Measured};
 
 // The functions of a type: their count, and each.
-pub(crate) fn after_functions(s: &[u8], lib: TypeLib, ti: TypeInfoEntry, to: usize) -> usize
-    ensures { λ r. ⌜ Measured (map (encode (list u16 (function edition-one (lib .count)))) (all (functionsOf (now (s .entry)) lib ti))) to r ⌝ }
+pub(crate) fn after_functions(s: &[u8], lib: &Numbers, ti: TypeInfoEntry, to: usize) -> usize
+    ensures { λ r. ⌜ Measured (functionsEmitted (now (s .entry)) (library (now (lib .entry))) ti) to r ⌝ }
 {
     match iterators::funcs(&*s, ti) {
         FuncsAnswer::Value(cursor) => {
@@ -45,8 +45,8 @@ pub(crate) fn after_functions(s: &[u8], lib: TypeLib, ti: TypeInfoEntry, to: usi
 }
 
 // Each function that the cursor yields. (A refusal ends it at once: it stays.)
-fn after_each(s: &[u8], lib: TypeLib, ti: TypeInfoEntry, cursor: FuncCursor, to: usize) -> usize
-    ensures { λ r. ⌜ Measured (layAll (function edition-one (lib .count)) (numbered (functionOf (now (s .entry)) lib ti) 0 (yields (funcStep (now (s .entry))) (cursor .remaining) cursor))) to r ⌝ }
+fn after_each(s: &[u8], lib: &Numbers, ti: TypeInfoEntry, cursor: FuncCursor, to: usize) -> usize
+    ensures { λ r. ⌜ Measured (functionsFrom (now (s .entry)) (library (now (lib .entry))) ti cursor) to r ⌝ }
 {
     let rows = words::func_rows(&*s, ti);
     let names = sheet_trees::names::names_of(&*s, lib);
@@ -71,15 +71,15 @@ fn after_each(s: &[u8], lib: TypeLib, ti: TypeInfoEntry, cursor: FuncCursor, to:
 // A function, with its identifier and the offset of its name: of any type, at any index, that have these two.
 fn after_function(
     s: &[u8],
-    lib: TypeLib,
+    lib: &Numbers,
     names: Names,
     memid: I32Answer,
     name_offset: I32Answer,
     func: FuncRecord,
     to: usize,
 ) -> usize
-    requires { ⌜ Near (now s) lib names ⌝ }
-    ensures { λ r. ⌜ ((ti : TypeInfoEntry) (i : ℕ) → found (toldI32 memid) ≡ found (signed32 (funcMemid (now (s .entry)) ti i)) → found (toldI32 «name_offset») ≡ found (signed32 (funcNameOffset (now (s .entry)) ti i)) → Measured (map (encode (function edition-one (lib .count))) (functionOf (now (s .entry)) lib ti i (record { at = func .at; len = func .len }))) to r) ⌝ }
+    requires { ⌜ Near (now s) (library (now lib)) names ⌝ }
+    ensures { λ r. ⌜ FunctionMeasured (now (s .entry)) (library (now (lib .entry))) (toldI32 memid) (toldI32 «name_offset») func to r ⌝ }
 {
     let t = names::after_memid(memid, to);
     let t = names::after_name_by(&*s, lib, names, name_offset, t);

@@ -1,8 +1,10 @@
 // Where the types of a sheet would end. A sheet is measured before it is written; this is the traversal of the emitters, but it
 // makes no bytes and only counts them, which takes a fraction of their time.
 use records::typeinfo::TypeInfoEntry;
+use typelib::Numbers;
 use typelib::TypeInfoIndex;
-use typelib::TypeLib;
+use typelib::tables;
+use typelib::typeinfos;
 use typelib::typeinfos::TypeInfoAnswer;
 ghost use Rattle.records.specs.Answer.{value, map};
 ghost use Rattle.description.specs.Format.{encode};
@@ -20,35 +22,35 @@ mod trees;
 mod variables;
 
 // All types of the library, from `to` on. (A refusal ends it at once: it stays.)
-pub fn types(s: &[u8], lib: TypeLib, to: usize) -> usize
-    ensures { λ r. ⌜ Measured (layAll (typeInfo edition-one (lib .count)) (typesFrom (now (s .entry)) lib (lib .count) 0)) to r ⌝ }
+pub fn types(s: &[u8], lib: &Numbers, to: usize) -> usize
+    ensures { λ r. ⌜ Measured (bodiesEmitted (now (s .entry)) (library (now (lib .entry)))) to r ⌝ }
 {
-    let count = lib.count as usize;
+    let count = tables::count(lib) as usize;
     let mut t = to;
     let mut i: usize = 0;
     while i < count {
         if emit::PAST < t {
             return t;
         }
-        t = after_type_of(&*s, lib, i, t);
+        t = after_type_of(&*s, lib, TypeInfoIndex(i), t);
         i += 1;
     }
     t
 }
 
 // Type `index` of the library; 6, 7 or 8 where there is none.
-fn after_type_of(s: &[u8], lib: TypeLib, index: usize, to: usize) -> usize
-    ensures { λ r. ⌜ Measured (map (encode (typeInfo edition-one (lib .count))) (typeOf (now (s .entry)) lib index)) to r ⌝ }
+fn after_type_of(s: &[u8], lib: &Numbers, index: TypeInfoIndex, to: usize) -> usize
+    ensures { λ r. ⌜ Measured (typeEmitted (now (s .entry)) (library (now (lib .entry))) (index .0)) to r ⌝ }
 {
-    match lib.typeinfo(&*s, TypeInfoIndex(index)) {
+    match typeinfos::typeinfo_at(lib, &*s, index) {
         TypeInfoAnswer::Value(ti) => after_type(&*s, lib, ti, to),
         TypeInfoAnswer::Refused(n) => emit::put_refusal(to, n),
     }
 }
 
 // A type.
-fn after_type(s: &[u8], lib: TypeLib, ti: TypeInfoEntry, to: usize) -> usize
-    ensures { λ r. ⌜ Measured (map (encode (typeInfo edition-one (lib .count))) (typeAt (now (s .entry)) lib ti)) to r ⌝ }
+fn after_type(s: &[u8], lib: &Numbers, ti: TypeInfoEntry, to: usize) -> usize
+    ensures { λ r. ⌜ Measured (typeAtEmitted (now (s .entry)) (library (now (lib .entry))) ti) to r ⌝ }
 {
     let kind = util::bits(emit::word_at(s, ti.at, 0x00), 0, 4);
     // the kind, the flags and the version
@@ -60,8 +62,8 @@ fn after_type(s: &[u8], lib: TypeLib, ti: TypeInfoEntry, to: usize) -> usize
 }
 
 // The GUID, the name, and how many functions and variables are declared.
-fn after_names(s: &[u8], lib: TypeLib, at: usize, to: usize) -> usize
-    ensures { λ r. ⌜ Measured (value (namesBytes (now (s .entry)) lib at)) to r ⌝ }
+fn after_names(s: &[u8], lib: &Numbers, at: usize, to: usize) -> usize
+    ensures { λ r. ⌜ Measured (value (namesBytes (now (s .entry)) (library (now (lib .entry))) at)) to r ⌝ }
 {
     let t = names::after_guid(&*s, lib, emit::word_at(s, at, 0x2C), to);
     let names = sheet_trees::names::names_of(&*s, lib);

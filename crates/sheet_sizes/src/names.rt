@@ -2,7 +2,7 @@
 use records::answer::I32Answer;
 use records::answer::PlaceAnswer;
 use sheet_trees::names::Names;
-use typelib::TypeLib;
+use typelib::Numbers;
 ghost use mathlib.Core.Path.{_≡_};
 ghost use Rattle.records.specs.Answer.{value};
 ghost use Rattle.records.specs.Told.{toldI32};
@@ -14,19 +14,19 @@ ghost use Rattle.sheet_trees.specs.Names.{Near};
 ghost use Rattle.sheet_sizes.specs.Measured.{Measured};
 
 // The GUID at an offset.
-pub(crate) fn after_guid(s: &[u8], lib: TypeLib, offset: u32, to: usize) -> usize
-    ensures { λ r. ⌜ Measured (value (encode (opt guid) (guidOf (now (s .entry)) lib offset))) to r ⌝ }
+pub(crate) fn after_guid(s: &[u8], lib: &Numbers, offset: u32, to: usize) -> usize
+    ensures { λ r. ⌜ Measured (guidEmitted (now (s .entry)) (library (now (lib .entry))) offset) to r ⌝ }
 {
-    match lib.guid_at(&*s, offset) {
+    match typelib::names::guid_at(lib, &*s, offset) {
         PlaceAnswer::Value(_) => crate::ahead(to, 17),
         PlaceAnswer::Refused(_) => crate::ahead(to, 1),
     }
 }
 
 // The name at an offset, behind its length in one byte.
-pub(crate) fn after_name(s: &[u8], lib: TypeLib, names: Names, offset: u32, to: usize) -> usize
-    requires { ⌜ Near (now s) lib names ⌝ }
-    ensures { λ r. ⌜ Measured (value (encode (opt name) (nameOf (now (s .entry)) lib offset))) to r ⌝ }
+pub(crate) fn after_name(s: &[u8], lib: &Numbers, names: Names, offset: u32, to: usize) -> usize
+    requires { ⌜ Near (now s) (library (now lib)) names ⌝ }
+    ensures { λ r. ⌜ Measured (nameEmitted (now (s .entry)) (library (now (lib .entry))) offset) to r ⌝ }
 {
     match sheet_trees::names::name_at(&*s, lib, names, offset) {
         PlaceAnswer::Value(p) => crate::ahead(to, 2 + p.len),
@@ -37,13 +37,13 @@ pub(crate) fn after_name(s: &[u8], lib: TypeLib, names: Names, offset: u32, to: 
 // A member's name: missing where its offset is.
 pub(crate) fn after_name_by(
     s: &[u8],
-    lib: TypeLib,
+    lib: &Numbers,
     names: Names,
     offset: I32Answer,
     to: usize,
 ) -> usize
-    requires { ⌜ Near (now s) lib names ⌝ }
-    ensures { λ r. ⌜ Measured (value (encode (opt name) (nameBy (now (s .entry)) lib (toldI32 offset)))) to r ⌝ }
+    requires { ⌜ Near (now s) (library (now lib)) names ⌝ }
+    ensures { λ r. ⌜ Measured (nameByEmitted (now (s .entry)) (library (now (lib .entry))) (toldI32 offset)) to r ⌝ }
 {
     match offset {
         I32Answer::Value(x) => after_name(&*s, lib, names, util::unsigned32(x), to),
@@ -53,7 +53,7 @@ pub(crate) fn after_name_by(
 
 // A member's identifier.
 pub(crate) fn after_memid(memid: I32Answer, to: usize) -> usize
-    ensures { λ r. ⌜ Measured (value (encode (opt u32) (memidBy (toldI32 memid)))) to r ⌝ }
+    ensures { λ r. ⌜ Measured (memidEmitted (toldI32 memid)) to r ⌝ }
 {
     match memid {
         I32Answer::Value(_) => crate::ahead(to, 5),

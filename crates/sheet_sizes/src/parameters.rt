@@ -7,7 +7,7 @@ use cursors::iterators::ParamsAnswer;
 use member_records::func::FuncRecord;
 use records::answer::I32Answer;
 use sheet_trees::names::Names;
-use typelib::TypeLib;
+use typelib::Numbers;
 ghost use mathlib.Core.Path.{_≡_};
 ghost use Rattle.records.specs.Answer.{value, map};
 ghost use Rattle.records.specs.Told.{toldI32};
@@ -24,13 +24,13 @@ ghost use Rattle.sheet_sizes.specs.Measured.{Measured};
 // The parameters of a function: their count, and each.
 pub(crate) fn after_parameters(
     s: &[u8],
-    lib: TypeLib,
+    lib: &Numbers,
     names: Names,
     func: FuncRecord,
     to: usize,
 ) -> usize
-    requires { ⌜ Near (now s) lib names ⌝ }
-    ensures { λ r. ⌜ Measured (map (encode (list u16 (parameter edition-one (lib .count)))) (all (parametersOf (now (s .entry)) lib func))) to r ⌝ }
+    requires { ⌜ Near (now s) (library (now lib)) names ⌝ }
+    ensures { λ r. ⌜ Measured (parametersEmitted (now (s .entry)) (library (now (lib .entry))) func) to r ⌝ }
 {
     match iterators::params(&*s, func) {
         ParamsAnswer::Value(cursor) => after_each(
@@ -48,15 +48,15 @@ pub(crate) fn after_parameters(
 // Each parameter that the cursor yields. They lie in the function's record, so it is not asked for each of them.
 fn after_each(
     s: &[u8],
-    lib: TypeLib,
+    lib: &Numbers,
     names: Names,
     func: FuncRecord,
     cursor: ParamCursor,
     to: usize,
 ) -> usize
-    requires { ⌜ Near (now s) lib names ⌝ }
+    requires { ⌜ Near (now s) (library (now lib)) names ⌝ }
     requires { ⌜ Room (now s) cursor ⌝ }
-    ensures { λ r. ⌜ Measured (layAll (parameter edition-one (lib .count)) (numbered (parameterOf (now (s .entry)) lib func) 0 (yields (paramStep (now (s .entry))) (cursor .remaining) cursor))) to r ⌝ }
+    ensures { λ r. ⌜ Measured (parametersFrom (now (s .entry)) (library (now (lib .entry))) func cursor) to r ⌝ }
 {
     let mut t = to;
     let mut i: usize = 0;
@@ -70,15 +70,15 @@ fn after_each(
 // Parameter `index` of `func`, at `at`. It has a default value where its flags have 0x20.
 fn after_parameter(
     s: &[u8],
-    lib: TypeLib,
+    lib: &Numbers,
     names: Names,
     func: FuncRecord,
     index: usize,
     at: usize,
     to: usize,
 ) -> usize
-    requires { ⌜ Near (now s) lib names ⌝ }
-    ensures { λ r. ⌜ Measured (map (encode (parameter edition-one (lib .count))) (parameterOf (now (s .entry)) lib func index (record { at = at; len = 12 }))) to r ⌝ }
+    requires { ⌜ Near (now s) (library (now lib)) names ⌝ }
+    ensures { λ r. ⌜ Measured (parameterEmitted (now (s .entry)) (library (now (lib .entry))) func index at) to r ⌝ }
 {
     let flags = emit::word_at(s, at, 0x08);
     let field = emit::word_at(s, at, 0x00);
@@ -94,8 +94,8 @@ fn after_parameter(
 }
 
 // A default value, by the emitter over an output with no room: few parameters have one.
-fn after_default(s: &[u8], lib: TypeLib, offset: I32Answer, to: usize) -> usize
-    ensures { λ r. ⌜ Measured (value (encode (opt constant) (constantBy (now (s .entry)) lib (toldI32 offset)))) to r ⌝ }
+fn after_default(s: &[u8], lib: &Numbers, offset: I32Answer, to: usize) -> usize
+    ensures { λ r. ⌜ Measured (constantByEmitted (now (s .entry)) (library (now (lib .entry))) (toldI32 offset)) to r ⌝ }
 {
     let mut none = [0u8; 0];
     sheet_members::parameters::put_constant_by(&*s, lib, offset, &mut none, to)

@@ -3,7 +3,8 @@ use records::field::LIMIT;
 use sheet_trees::trees;
 use sheet_trees::trees::Inner;
 use sheet_trees::trees::Level;
-use typelib::TypeLib;
+use typelib::Numbers;
+use typelib::descriptors;
 use typelib::descriptors::PairAnswer;
 use util::NEGATIVE;
 ghost use mathlib.Core.List.{[]};
@@ -23,8 +24,8 @@ const LEVELS: usize = 32;
 
 // The tree of a type field. (Most are negative, and need nothing but their own number. This test stands apart from the loop, which
 // has a caller of its own besides, so that the compiler puts the test alone into the callers.)
-pub(crate) fn after_tree(s: &[u8], lib: TypeLib, field: u32, to: usize) -> usize
-    ensures { λ r. ⌜ Measured (map (encode (tree edition-one (lib .count))) (treeOf (now (s .entry)) lib field)) to r ⌝ }
+pub(crate) fn after_tree(s: &[u8], lib: &Numbers, field: u32, to: usize) -> usize
+    ensures { λ r. ⌜ Measured (treeEmitted (now (s .entry)) (library (now (lib .entry))) field) to r ⌝ }
 {
     if field < NEGATIVE {
         return after_nested(&*s, lib, field, to);
@@ -36,8 +37,8 @@ pub(crate) fn after_tree(s: &[u8], lib: TypeLib, field: u32, to: usize) -> usize
 }
 
 // The same by its descriptions, one under the other; refusal 11 where there are more than `LEVELS`.
-pub(crate) fn after_nested(s: &[u8], lib: TypeLib, field: u32, to: usize) -> usize
-    ensures { λ r. ⌜ Measured (map (encode (tree edition-one (lib .count))) (treeOf (now (s .entry)) lib field)) to r ⌝ }
+pub(crate) fn after_nested(s: &[u8], lib: &Numbers, field: u32, to: usize) -> usize
+    ensures { λ r. ⌜ Measured (treeEmitted (now (s .entry)) (library (now (lib .entry))) field) to r ⌝ }
 {
     let mut t = to;
     let mut f = field;
@@ -56,8 +57,8 @@ pub(crate) fn after_nested(s: &[u8], lib: TypeLib, field: u32, to: usize) -> usi
 }
 
 // One description of a tree.
-fn after_level(s: &[u8], lib: TypeLib, field: u32, to: usize) -> Level
-    ensures { λ r. ⌜ Levelled (now (s .entry)) lib (lent (now (s .entry)) (typeDescription (now (s .entry)) lib field)) (put to) [] (put (r .to)) [] (toldInner (r .inner)) ⌝ }
+fn after_level(s: &[u8], lib: &Numbers, field: u32, to: usize) -> Level
+    ensures { λ r. ⌜ FieldPut (now (s .entry)) (library (now (lib .entry))) field to [] r [] ⌝ }
 {
     if LIMIT < s.len() {
         return Level {
@@ -71,7 +72,7 @@ fn after_level(s: &[u8], lib: TypeLib, field: u32, to: usize) -> Level
             inner: Inner::Nothing,
         };
     }
-    match lib.type_desc_at(&*s, field) {
+    match descriptors::type_desc_at(lib, &*s, field) {
         PairAnswer::Value(words) => after_descriptor(&*s, lib, words.first, words.second, to),
         PairAnswer::Refused(_) => Level {
             to: crate::ahead(to, 1),
@@ -82,8 +83,8 @@ fn after_level(s: &[u8], lib: TypeLib, field: u32, to: usize) -> Level
 
 // The description that the two words of a type descriptor are: by its emitter, over an output with no room, unless it is a
 // pointer or a safe array, as most are.
-fn after_descriptor(s: &[u8], lib: TypeLib, first: u32, second: u32, to: usize) -> Level
-    ensures { λ r. ⌜ Levelled (now (s .entry)) lib (descriptionOf (now (s .entry)) lib (bitsOf 0 12 first) second) (put to) [] (put (r .to)) [] (toldInner (r .inner)) ⌝ }
+fn after_descriptor(s: &[u8], lib: &Numbers, first: u32, second: u32, to: usize) -> Level
+    ensures { λ r. ⌜ DescriptorPut (now (s .entry)) (library (now (lib .entry))) first second to [] r [] ⌝ }
 {
     match util::bits(first, 0, 12) {
         26 => Level {

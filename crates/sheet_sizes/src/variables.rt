@@ -8,7 +8,8 @@ use cursors::iterators::VarsAnswer;
 use member_records::var::VarRecord;
 use records::typeinfo::TypeInfoEntry;
 use sheet_trees::names::Names;
-use typelib::TypeLib;
+use typelib::Numbers;
+use typelib::typeinfos;
 ghost use mathlib.Core.Path.{_≡_};
 ghost use Rattle.records.specs.Answer.{value, map};
 ghost use Rattle.cursors.specs.Cursors.{varStep};
@@ -23,8 +24,8 @@ ghost use Rattle.sheet_trees.specs.Names.{Near};
 ghost use Rattle.sheet_sizes.specs.Measured.{Measured};
 
 // The variables of a type: their count, and each.
-pub(crate) fn after_variables(s: &[u8], lib: TypeLib, ti: TypeInfoEntry, to: usize) -> usize
-    ensures { λ r. ⌜ Measured (map (encode (list u16 (variable edition-one (lib .count)))) (all (variablesOf (now (s .entry)) lib ti))) to r ⌝ }
+pub(crate) fn after_variables(s: &[u8], lib: &Numbers, ti: TypeInfoEntry, to: usize) -> usize
+    ensures { λ r. ⌜ Measured (variablesEmitted (now (s .entry)) (library (now (lib .entry))) ti) to r ⌝ }
 {
     match iterators::vars(&*s, ti) {
         VarsAnswer::Value(cursor) => after_each(&*s, lib, ti, cursor, crate::ahead(to, 2)),
@@ -33,8 +34,8 @@ pub(crate) fn after_variables(s: &[u8], lib: TypeLib, ti: TypeInfoEntry, to: usi
 }
 
 // Each variable that the cursor yields. (A refusal ends it at once: it stays.)
-fn after_each(s: &[u8], lib: TypeLib, ti: TypeInfoEntry, cursor: VarCursor, to: usize) -> usize
-    ensures { λ r. ⌜ Measured (layAll (variable edition-one (lib .count)) (numbered (variableOf (now (s .entry)) lib ti) 0 (yields (varStep (now (s .entry))) (cursor .remaining) cursor))) to r ⌝ }
+fn after_each(s: &[u8], lib: &Numbers, ti: TypeInfoEntry, cursor: VarCursor, to: usize) -> usize
+    ensures { λ r. ⌜ Measured (variablesFrom (now (s .entry)) (library (now (lib .entry))) ti cursor) to r ⌝ }
 {
     let names = sheet_trees::names::names_of(&*s, lib);
     let mut t = to;
@@ -56,20 +57,20 @@ fn after_each(s: &[u8], lib: TypeLib, ti: TypeInfoEntry, cursor: VarCursor, to: 
 // Variable `index` of `ti`.
 fn after_variable(
     s: &[u8],
-    lib: TypeLib,
+    lib: &Numbers,
     names: Names,
     ti: TypeInfoEntry,
     index: usize,
     var: VarRecord,
     to: usize,
 ) -> usize
-    requires { ⌜ Near (now s) lib names ⌝ }
-    ensures { λ r. ⌜ Measured (map (encode (variable edition-one (lib .count))) (variableOf (now (s .entry)) lib ti index (record { at = var .at; len = var .len }))) to r ⌝ }
+    requires { ⌜ Near (now s) (library (now lib)) names ⌝ }
+    ensures { λ r. ⌜ Measured (variableEmitted (now (s .entry)) (library (now (lib .entry))) ti index var) to r ⌝ }
 {
     let varkind = emit::half_at(s, var.at, 0x0C);
     let word = emit::word_at(s, var.at, 0x10);
-    let t = names::after_memid(lib.var_memid(&*s, ti, index), to);
-    let t = names::after_name_by(&*s, lib, names, lib.var_name_offset(&*s, ti, index), t);
+    let t = names::after_memid(typeinfos::var_memid(&*s, ti, index), to);
+    let t = names::after_name_by(&*s, lib, names, typeinfos::var_name_offset(&*s, ti, index), t);
     let t = trees::after_nested(&*s, lib, emit::word_at(s, var.at, 0x04), t);
     // the word at 0x08 and the kind
     let t = crate::ahead(t, 6);
@@ -77,8 +78,8 @@ fn after_variable(
 }
 
 // The word at 0x10: a constant where 0x0C holds 2. (It is measured by its emitter, over an output with no room.)
-fn after_value(s: &[u8], lib: TypeLib, varkind: u16, word: u32, to: usize) -> usize
-    ensures { λ r. ⌜ Measured (value (valueBytes (isConstant varkind) (valueWith (now (s .entry)) lib (isConstant varkind) word))) to r ⌝ }
+fn after_value(s: &[u8], lib: &Numbers, varkind: u16, word: u32, to: usize) -> usize
+    ensures { λ r. ⌜ Measured (valueEmitted (now (s .entry)) (library (now (lib .entry))) varkind word) to r ⌝ }
 {
     if varkind == 2 {
         let mut none = [0u8; 0];

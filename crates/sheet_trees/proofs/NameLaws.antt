@@ -23,7 +23,7 @@ module _ (s : List ℕ) (lib : TypeLib) where
   near-none at offset n h k = absurd (omega (arith, h))
 
   -- what ends inside the file when it is longest and as far as `near` is inside wherever it is nearer and shorter
-  pub near-table : (table : Place) (near : ℕ) → length s ≤ limit → value table ≡ segmentOf s lib 7 → table .at + (near + 267) ≤ length s
+  pub near-table : (table : Place) (near : ℕ) → length s ≤ limit → value table ≡ segmentOf lib 7 → table .at + (near + 267) ≤ length s
       → Near s lib (record { at = table .at; near = near })
   near-table table near few e inside offset n h k =
       lent-fits s _ _ few

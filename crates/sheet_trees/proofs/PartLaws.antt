@@ -1,4 +1,5 @@
 -- The bytes of `Parts` are those of the formats. Assumes nothing.
+use Rattle.typelib.specs.Header.{typeCount}
 use mathlib.Core.Path.{_≡_, refl, sym, ap, _∙_}
 use mathlib.Core.Bool.{Bool, true, false, cond}
 use mathlib.Core.Option.{Option, some, none}
@@ -188,19 +189,18 @@ module _ (s : List ℕ) (lib : TypeLib) where
   unfolding importBytes referenceBytes referenceFrom reference
   resolved-external b r {p} {imp} e = rw e
 
-  -- n is the hreftype as the call was given it
-  module _ (h n : ℕ) {a : ResolvedAnswer} (e : n ≡ h) (k : toldResolved a ≡ hrefResolved s lib n) where
+  module _ (h : ℕ) {a : ResolvedAnswer} (k : toldResolved a ≡ hrefResolved s lib h) where
     pub reference-some : {b : ℕ} {r : ResolvedHreftype} → b ≡ h / 2 ^ 24 % 2 ^ 1 → a ≡ resolved.Value r
-        → value (referenceBytes lib (referenceFrom s lib b (value (toldHreftype r)))) ≡ value (encode (reference edition-one (lib .count)) (referenceOf s lib h))
+        → value (referenceBytes lib (referenceFrom s lib b (value (toldHreftype r)))) ≡ value (encode (reference edition-one (typeCount lib)) (referenceOf s lib h))
     unfolding referenceBytes referenceOf
     reference-some {b} {r} g l =
-        let m : value (toldHreftype r) ≡ hrefResolved s lib h = sym (ap toldResolved l) ∙ k ∙ ap (hrefResolved s lib) e in
+        let m : value (toldHreftype r) ≡ hrefResolved s lib h = sym (ap toldResolved l) ∙ k in
         rw (g, m)
 
-    pub reference-none : {m : ℕ} → a ≡ resolved.Refused m → value (0 ∷ []) ≡ value (encode (reference edition-one (lib .count)) (referenceOf s lib h))
+    pub reference-none : {m : ℕ} → a ≡ resolved.Refused m → value (0 ∷ []) ≡ value (encode (reference edition-one (typeCount lib)) (referenceOf s lib h))
     unfolding referenceOf referenceFrom reference
     reference-none {m} l =
-        let q : refused m ≡ hrefResolved s lib h = sym (ap toldResolved l) ∙ k ∙ ap (hrefResolved s lib) e in
+        let q : refused m ≡ hrefResolved s lib h = sym (ap toldResolved l) ∙ k in
         rw (← q)
 
 -- ---- references in this file
@@ -214,16 +214,11 @@ module _ (s : List ℕ) (count h : ℕ) where
   unfolding hereBytes
   here-negative l k = ap (λ (a : Answer ℕ). value (indexBytes (bitsOf 24 1 h) a)) (lent-fits _ _ (refused 9) l (rw (le-leb 0x80000000 h k)))
 
-  cleared-is : (b c : ℕ) → b ≡ h / 2 ^ 24 % 2 ^ 1 → c ≡ h - dispatchBit * b → c ≡ cleared h
-  cleared-is zero c g e = let f : c ≡ h = omega arith in f ∙ cleared-clear h 0 (λ o. absurd (omega arith)) g
-  cleared-is (suc zero) c g e = let f : c ≡ h - dispatchBit = omega arith in f ∙ cleared-set h 1 refl g
-  cleared-is (suc (suc k)) c g e = absurd (omega arith)
-
-  module _ (b c : ℕ) (g : b ≡ h / 2 ^ 24 % 2 ^ 1) (e : c ≡ h - dispatchBit * b) (l : length s ≤ limit) (k : h < 0x80000000) where
+  module _ (b c : ℕ) (g : b ≡ h / 2 ^ 24 % 2 ^ 1) (e : c ≡ cleared h) (l : length s ≤ limit) (k : h < 0x80000000) where
     here-is : (a : Answer ℕ) → a ≡ internalIndex count c → value (indexBytes b a) ≡ value (hereBytes s count h)
     unfolding hereBytes
     here-is a q =
-        let f : a ≡ internalIndex count (cleared h) = q ∙ ap (internalIndex count) (cleared-is b c g e) in
+        let f : a ≡ internalIndex count (cleared h) = q ∙ ap (internalIndex count) e in
         let i = lent-fits s (cond (negative h) (refused 9) (internalIndex count (cleared h))) a l (rw (lt-leb 0x80000000 h k) f) in
         rw g (ap (λ (x : Answer ℕ). value (indexBytes (bitsOf 24 1 h) x)) i)
 
@@ -252,10 +247,10 @@ module _ (s : List ℕ) (lib : TypeLib) (h : ℕ) where
       by false true = refl
       by false false = refl
 
-  pub here-referred : h % 4 ≡ 0 → value (hereBytes s (lib .count) h) ≡ value (encode (reference edition-one (lib .count)) (referenceOf s lib h))
+  pub here-referred : h % 4 ≡ 0 → value (hereBytes s (typeCount lib) h) ≡ value (encode (reference edition-one (typeCount lib)) (referenceOf s lib h))
   unfolding hereBytes referenceBytes referenceOf
   here-referred z =
-      let i = internalIndex (lib .count) (cleared h) in
+      let i = internalIndex (typeCount lib) (cleared h) in
       let r : map here i ≡ resolvedAt s lib (cleared h) = in-this-file s lib (cleared h) (map here i) (cleared-low z) refl in
       ap value (in-this (bitsOf 24 1 h) (lent s (cond (negative h) (refused 9) i)))
       ∙ ap (λ (a : Answer Resolved). value (referenceBytes lib (referenceFrom s lib (bitsOf 24 1 h) a)))

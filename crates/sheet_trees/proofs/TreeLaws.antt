@@ -1,4 +1,5 @@
 -- A tree is its head, and then the tree under it. Assumes nothing.
+use Rattle.typelib.specs.Header.{typeCount}
 use mathlib.Core.Path.{_≡_, refl, sym, ap, _∙_}
 use mathlib.Core.Bool.{Bool, true, false, cond}
 use mathlib.Core.Option.{Option, some, none}
@@ -73,25 +74,25 @@ array-is s at {n} e = rw e
 
 module _ (s : List ℕ) (lib : TypeLib) where
   abbrev bytes : ℕ → Answer Tree → Answer Bytes
-  bytes k = map (encode (nested edition-one (lib .count) k))
+  bytes k = map (encode (nested edition-one (typeCount lib) k))
 
   abbrev rest : ℕ → (ℕ → Answer Tree) → Option ℕ → Answer Bytes
   rest k below none = value []
   rest k below (some field) = bytes k (below field)
 
   wrapped : (k : ℕ) (w : Tree → Tree) (head : Bytes)
-      → ((t : Tree) → encode (nested edition-one (lib .count) (suc k)) (w t) ≡ head ++ encode (nested edition-one (lib .count) k) t)
+      → ((t : Tree) → encode (nested edition-one (typeCount lib) (suc k)) (w t) ≡ head ++ encode (nested edition-one (typeCount lib) k) t)
       → (a : Answer Tree) → bytes (suc k) (map w a) ≡ value head ▸ bytes k a
   wrapped k w head h (value t) = ap value (h t)
   wrapped k w head h (refused n) = refl
 
   array-tree : (k at : ℕ) (t : Tree)
-      → encode (nested edition-one (lib .count) (suc k)) (cArray (dimensionsOf s at) t) ≡ arrayBytes s at ++ encode (nested edition-one (lib .count) k) t
+      → encode (nested edition-one (typeCount lib) (suc k)) (cArray (dimensionsOf s at) t) ≡ arrayBytes s at ++ encode (nested edition-one (typeCount lib) k) t
   unfolding nested level arrayBytes dimensionsOf dimensionsBytes
   array-tree k at t =
       let n : ℕ = fieldOf arrayDesc "dimensions" s at in
       let ds : List Dimension = dimensionsAt s (at + sizeOf arrayDesc) n in
-      ap (λ m. 4 ∷ ((leBytes 2 m ++ joined dimension ds) ++ encode (nested edition-one (lib .count) k) t)) (dimensions-length s (at + sizeOf arrayDesc) n)
+      ap (λ m. 4 ∷ ((leBytes 2 m ++ joined dimension ds) ++ encode (nested edition-one (typeCount lib) k) t)) (dimensions-length s (at + sizeOf arrayDesc) n)
 
   laid : (k : ℕ) (below : ℕ → Answer Tree) (a : Answer TypeDescription)
       → bytes (suc k) (treeFrom s lib below a) ≡ value (headBytes s lib a) ▸ rest k below (innerOf s a)
@@ -131,28 +132,28 @@ module _ (s : List ℕ) (lib : TypeLib) where
           let q : some below ≡ innerOf s a = sym (ap toldInner g) ∙ f in
           rw (step, ← q) (join h k)
 
-  pub whole-tree : (field : ℕ) → bytes 32 (treeOf s lib field) ≡ map (encode (tree edition-one (lib .count))) (treeOf s lib field)
+  pub whole-tree : (field : ℕ) → bytes 32 (treeOf s lib field) ≡ map (encode (tree edition-one (typeCount lib))) (treeOf s lib field)
   unfolding tree
   whole-tree field = by-answer (treeOf s lib field)
     where
-      by-answer : (a : Answer Tree) → bytes 32 a ≡ map (encode (tree edition-one (lib .count))) a
+      by-answer : (a : Answer Tree) → bytes 32 a ≡ map (encode (tree edition-one (typeCount lib))) a
       by-answer (value t) = refl
       by-answer (refused n) = refl
 
   module _ (field : ℕ) where
     headed : {a : Answer TypeDescription} → a ≡ lent s (typeDescription s lib field) → innerOf s a ≡ none
-        → value (headBytes s lib a ++ []) ≡ map (encode (tree edition-one (lib .count))) (treeOf s lib field)
+        → value (headBytes s lib a ++ []) ≡ map (encode (tree edition-one (typeCount lib))) (treeOf s lib field)
     headed {a} e f = sym (step 32 field (λ z. omega (arith, z)) e ∙ ap (λ (i : Option ℕ). value (headBytes s lib a) ▸ rest 31 (nestedOf s lib 31) i) f) ∙ whole-tree field
 
     inline-by : 0x80000000 ≤ field → (b : Bool) → ltb limit (length s) ≡ b
-        → value (baseBytes (cond b (refused 1) (value (bitsOf 0 12 field)))) ≡ map (encode (tree edition-one (lib .count))) (treeOf s lib field)
+        → value (baseBytes (cond b (refused 1) (value (bitsOf 0 12 field)))) ≡ map (encode (tree edition-one (typeCount lib))) (treeOf s lib field)
     unfolding headBytes innerOf leBytes
     inline-by k true e = headed {a = refused 1} (lent-long _ _ (ltb-true limit (length s) e)) refl
     inline-by k false e =
         headed {a = value (type.Base (bitsOf 0 12 field))} (lent-fits _ _ _ (ltb-false limit (length s) e) (field-base s lib field (bitsOf 0 12 field) k refl)) refl
 
     -- a negative field is a base type
-    pub inline-tree : 0x80000000 ≤ field → value (inlineBytes s field) ≡ map (encode (tree edition-one (lib .count))) (treeOf s lib field)
+    pub inline-tree : 0x80000000 ≤ field → value (inlineBytes s field) ≡ map (encode (tree edition-one (typeCount lib))) (treeOf s lib field)
     unfolding inlineBytes lent
     inline-tree k = inline-by k (ltb limit (length s)) refl
 
@@ -193,7 +194,7 @@ module _ (s : List ℕ) (lib : TypeLib) {t u : Put} {o o′ : List ℕ} {i : Opt
     unfolding headBytes innerOf
     level-safe-array l = (l .0, l .1 ∙ ap some (sym (ofZ-toZ w32 second fits)))
 
-    pub level-user : Emitted (value (5 ∷ encode (referred edition-one (lib .count)) (referenceOf s lib second))) t o u o′ × (i ≡ none)
+    pub level-user : Emitted (value (5 ∷ encode (referred edition-one (typeCount lib)) (referenceOf s lib second))) t o u o′ × (i ≡ none)
         → Levelled s lib (value (type.UserDefined (toZ w32 second))) t o u o′ i
     unfolding headBytes innerOf
     level-user l = rw (ofZ-toZ w32 second fits) l

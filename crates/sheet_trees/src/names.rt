@@ -2,11 +2,13 @@
 use records::answer::Place;
 use records::answer::PlaceAnswer;
 use records::field::LIMIT;
-use typelib::TypeLib;
+use typelib::Numbers;
+use typelib::tables;
 ghost use mathlib.Core.Path.{_≡_};
 ghost use Rattle.records.specs.Told.{toldPlace};
-ghost use Rattle.typelib.specs.Names.{nameBytes};
 ghost use Rattle.sheet_trees.specs.Names.{Near, nameIn};
+ghost use Rattle.sheet_trees.specs.Emitted.{NearName};
+ghost use Rattle.typelib.specs.Header.{library};
 
 const NAME_TABLE: usize = 7;
 
@@ -20,13 +22,13 @@ pub struct Names {
     pub near: u32,
 }
 
-pub fn names_of(s: &[u8], lib: TypeLib) -> Names
-    ensures { λ r. ⌜ Near (now (s .entry)) lib r ⌝ }
+pub fn names_of(s: &[u8], lib: &Numbers) -> Names
+    ensures { λ r. ⌜ Near (now (s .entry)) (library (now (lib .entry))) r ⌝ }
 {
     let len = s.len();
     if LONGEST <= len {
         if len <= LIMIT {
-            if let PlaceAnswer::Value(table) = lib.segment(&*s, NAME_TABLE) {
+            if let PlaceAnswer::Value(table) = tables::segment(lib, NAME_TABLE) {
                 if table.at <= len - LONGEST {
                     return Names {
                         at: table.at as u32,
@@ -40,14 +42,14 @@ pub fn names_of(s: &[u8], lib: TypeLib) -> Names
 }
 
 // The name at an offset: the library's, if `names` are its own. Nothing else is asked of one that is near.
-pub fn name_at(s: &[u8], lib: TypeLib, names: Names, offset: u32) -> PlaceAnswer
-    ensures { λ r. ⌜ toldPlace r ≡ nameIn (now (s .entry)) lib names offset ⌝ }
-    ensures { λ r. ⌜ (Near (now (s .entry)) lib names → toldPlace r ≡ nameBytes (now (s .entry)) lib offset) ⌝ }
+pub fn name_at(s: &[u8], lib: &Numbers, names: Names, offset: u32) -> PlaceAnswer
+    ensures { λ r. ⌜ toldPlace r ≡ nameIn (now (s .entry)) (library (now (lib .entry))) names offset ⌝ }
+    ensures { λ r. ⌜ NearName (now (s .entry)) (library (now (lib .entry))) names offset (toldPlace r) ⌝ }
 {
     if offset < names.near {
         let at = names.at as usize + offset as usize;
         let len = util::u8_or_zero(&*s, at + 8) as usize;
         return PlaceAnswer::Value(Place { at: at + 12, len });
     }
-    lib.name_at(&*s, offset)
+    typelib::names::name_at(lib, &*s, offset)
 }

@@ -4,43 +4,36 @@ use records::answer::PlaceAnswer;
 use records::field::LIMIT;
 use records::impfile::ImpFile;
 use records::impinfo::ImpInfo;
+use typelib::Numbers;
 use typelib::TypeInfoIndex;
-use typelib::TypeLib;
+use typelib::TypeInfoOffset;
 use typelib::references::ImpFileAnswer;
 use typelib::references::ResolvedAnswer;
 use typelib::references::ResolvedHreftype;
+use typelib::tables;
 use util::NEGATIVE;
-ghost use mathlib.Core.Path.{_≡_};
-ghost use mathlib.Core.List.{_++_, _∷_};
 ghost use Rattle.records.specs.Answer.{value};
-ghost use Rattle.records.specs.Layout.{impInfo};
 ghost use Rattle.records.specs.Told.{toldPlace};
-ghost use Rattle.typelib.specs.Told.{toldImpFile, toldHreftype};
-ghost use Rattle.description.specs.Format.{encode, opt, leBytes};
-ghost use Rattle.description.specs.Description.{ownIsGuid};
-ghost use Rattle.description.specs.Sheet.{edition-one, own, file, reference};
-ghost use Rattle.describe.specs.References.{fileOf, fileAt, ownOf, importOf, referenceFrom, referenceOf};
-ghost use Rattle.emit.specs.Emit.{Emitted, put};
-ghost use Rattle.sheet_trees.specs.Parts.{ownBytes, fileBytes, hereBytes, importBytes, internalBytes, referenceBytes};
-
-// The bit of a dispatch interface's reference.
-const DISPATCH_BIT: u32 = 0x0100_0000;
+ghost use Rattle.sheet_trees.specs.Parts.{internalBytes};
+ghost use Rattle.emit.specs.Emit.{Emits};
+ghost use Rattle.sheet_trees.specs.Emitted.{fileEmitted, hereEmitted, importEmitted, optFileEmitted, ownEmitted, referenceEmitted, resolvedEmitted};
+ghost use Rattle.typelib.specs.Header.{library};
 
 // The reference of an hreftype.
-pub fn put_reference(s: &[u8], lib: TypeLib, href: u32, out: &mut [u8], to: usize) -> usize
-    ensures { λ r. ⌜ Emitted (value (encode (reference edition-one (lib .count)) (referenceOf (now (s .entry)) lib href))) (put to) (now (out .entry)) (put r) (now (out .exit)) ⌝ }
+pub fn put_reference(s: &[u8], lib: &Numbers, href: u32, out: &mut [u8], to: usize) -> usize
+    ensures { λ r. ⌜ Emits (referenceEmitted (now (s .entry)) (library (now (lib .entry))) href) to (now (out .entry)) r (now (out .exit)) ⌝ }
 {
     let bit = util::bits(href, 24, 1);
-    match lib.resolve_hreftype_full(&*s, util::signed32(href)) {
+    match typelib::references::resolve_at(lib, &*s, href) {
         ResolvedAnswer::Value(r) => put_resolved(&*s, lib, bit, r, out, to),
         ResolvedAnswer::Refused(_) => emit::put_u8(out, to, 0),
     }
 }
 
-// The reference of an hreftype to one of this library's `count` typeinfos, as one is whose low two bits are clear. (Most
+// The reference of an hreftype to one of this library's typeinfos, as one is whose low two bits are clear. (Most
 // are. A caller that tests for them first saves the way through the tables.)
-pub fn put_in_this_file(s: &[u8], count: u32, href: u32, out: &mut [u8], to: usize) -> usize
-    ensures { λ r. ⌜ Emitted (value (hereBytes (now (s .entry)) count href)) (put to) (now (out .entry)) (put r) (now (out .exit)) ⌝ }
+pub fn put_in_this_file(s: &[u8], lib: &Numbers, href: u32, out: &mut [u8], to: usize) -> usize
+    ensures { λ r. ⌜ Emits (hereEmitted (now (s .entry)) (library (now (lib .entry))) href) to (now (out .entry)) r (now (out .exit)) ⌝ }
 {
     if LIMIT < s.len() {
         return emit::put_u8(out, to, 0);
@@ -49,9 +42,10 @@ pub fn put_in_this_file(s: &[u8], count: u32, href: u32, out: &mut [u8], to: usi
         return emit::put_u8(out, to, 0);
     }
     let bit = util::bits(href, 24, 1);
-    let index = (href - DISPATCH_BIT * bit) / 100;
-    if index < count {
-        put_internal(bit, TypeInfoIndex(index as usize), out, to)
+    let offset = TypeInfoOffset(typelib::references::without_dispatch(href));
+    let index = typelib::references::index_of(offset);
+    if index.0 < tables::count(lib) as usize {
+        put_internal(bit, index, out, to)
     } else {
         emit::put_u8(out, to, 0)
     }
@@ -60,13 +54,13 @@ pub fn put_in_this_file(s: &[u8], count: u32, href: u32, out: &mut [u8], to: usi
 // What it comes to, `bit` being its bit 0x01000000.
 fn put_resolved(
     s: &[u8],
-    lib: TypeLib,
+    lib: &Numbers,
     bit: u32,
     resolved: ResolvedHreftype,
     out: &mut [u8],
     to: usize,
 ) -> usize
-    ensures { λ r. ⌜ Emitted (value (referenceBytes lib (referenceFrom (now (s .entry)) lib bit (value (toldHreftype resolved))))) (put to) (now (out .entry)) (put r) (now (out .exit)) ⌝ }
+    ensures { λ r. ⌜ Emits (resolvedEmitted (now (s .entry)) (library (now (lib .entry))) bit resolved) to (now (out .entry)) r (now (out .exit)) ⌝ }
 {
     match resolved {
         ResolvedHreftype::Internal(index) => put_internal(bit, index, out, to),
@@ -77,7 +71,7 @@ fn put_resolved(
 }
 
 fn put_internal(bit: u32, index: TypeInfoIndex, out: &mut [u8], to: usize) -> usize
-    ensures { λ r. ⌜ Emitted (value (internalBytes bit (index .0))) (put to) (now (out .entry)) (put r) (now (out .exit)) ⌝ }
+    ensures { λ r. ⌜ Emits (value (internalBytes bit (index .0))) to (now (out .entry)) r (now (out .exit)) ⌝ }
 {
     let t = emit::put_u8(out, to, 1);
     let t = emit::put_le(out, t, bit as u64, 1);
@@ -86,14 +80,14 @@ fn put_internal(bit: u32, index: TypeInfoIndex, out: &mut [u8], to: usize) -> us
 
 fn put_import(
     s: &[u8],
-    lib: TypeLib,
+    lib: &Numbers,
     bit: u32,
     info: ImpInfo,
     imp_file: ImpFileAnswer,
     out: &mut [u8],
     to: usize,
 ) -> usize
-    ensures { λ r. ⌜ Emitted (value (importBytes (importOf (now (s .entry)) lib bit (info .at) (toldImpFile «imp_file»)))) (put to) (now (out .entry)) (put r) (now (out .exit)) ⌝ }
+    ensures { λ r. ⌜ Emits (importEmitted (now (s .entry)) (library (now (lib .entry))) bit info «imp_file») to (now (out .entry)) r (now (out .exit)) ⌝ }
 {
     let flags = emit::word_at(&*s, info.at, 0x00);
     let t = emit::put_u8(out, to, 2);
@@ -104,8 +98,8 @@ fn put_import(
 }
 
 // The word at 0x08 of an import record: a GUID's offset where its flags have 0x10000.
-fn put_own(s: &[u8], lib: TypeLib, flags: u32, word: u32, out: &mut [u8], to: usize) -> usize
-    ensures { λ r. ⌜ Emitted (value (ownBytes (ownIsGuid flags) (ownOf (now (s .entry)) lib (ownIsGuid flags) word))) (put to) (now (out .entry)) (put r) (now (out .exit)) ⌝ }
+fn put_own(s: &[u8], lib: &Numbers, flags: u32, word: u32, out: &mut [u8], to: usize) -> usize
+    ensures { λ r. ⌜ Emits (ownEmitted (now (s .entry)) (library (now (lib .entry))) flags word) to (now (out .entry)) r (now (out .exit)) ⌝ }
 {
     if flags / 0x10000 % 2 == 1 {
         values::put_opt_guid(&*s, lib, word, out, to)
@@ -114,8 +108,8 @@ fn put_own(s: &[u8], lib: TypeLib, flags: u32, word: u32, out: &mut [u8], to: us
     }
 }
 
-fn put_opt_file(s: &[u8], lib: TypeLib, imp_file: ImpFileAnswer, out: &mut [u8], to: usize) -> usize
-    ensures { λ r. ⌜ Emitted (value (encode (opt file) (fileOf (now (s .entry)) lib (toldImpFile «imp_file»)))) (put to) (now (out .entry)) (put r) (now (out .exit)) ⌝ }
+fn put_opt_file(s: &[u8], lib: &Numbers, imp_file: ImpFileAnswer, out: &mut [u8], to: usize) -> usize
+    ensures { λ r. ⌜ Emits (optFileEmitted (now (s .entry)) (library (now (lib .entry))) «imp_file») to (now (out .entry)) r (now (out .exit)) ⌝ }
 {
     match imp_file {
         ImpFileAnswer::Value(f) => put_file(&*s, lib, f, f.filename_bytes(&*s), out, to),
@@ -125,13 +119,13 @@ fn put_opt_file(s: &[u8], lib: TypeLib, imp_file: ImpFileAnswer, out: &mut [u8],
 
 fn put_file(
     s: &[u8],
-    lib: TypeLib,
+    lib: &Numbers,
     f: ImpFile,
     name: PlaceAnswer,
     out: &mut [u8],
     to: usize,
 ) -> usize
-    ensures { λ r. ⌜ Emitted (value (fileBytes (now (s .entry)) lib (f .at) (toldPlace name))) (put to) (now (out .entry)) (put r) (now (out .exit)) ⌝ }
+    ensures { λ r. ⌜ Emits (fileEmitted (now (s .entry)) (library (now (lib .entry))) f (toldPlace name)) to (now (out .entry)) r (now (out .exit)) ⌝ }
 {
     let PlaceAnswer::Value(place) = name else {
         return emit::put_u8(out, to, 0);

@@ -2,24 +2,20 @@
 use crate::references;
 use records::arraydesc::ArrayDesc;
 use records::field::LIMIT;
-use typelib::TypeLib;
+use typelib::Numbers;
+use typelib::descriptors;
 use typelib::descriptors::ArrayDescAnswer;
 use typelib::descriptors::PairAnswer;
 use util::NEGATIVE;
-ghost use mathlib.Core.Path.{_≡_};
-ghost use mathlib.Core.List.{[], _++_, _∷_};
+ghost use mathlib.Core.List.{[], _∷_};
 ghost use mathlib.Core.Option.{some, none};
-ghost use Rattle.records.specs.Answer.{value, map};
-ghost use Rattle.records.specs.Record.{bitsOf};
-ghost use Rattle.typelib.specs.Tables.{lent};
-ghost use Rattle.typelib.specs.Descriptors.{arrayDescAt, descriptionOf, typeDescription};
+ghost use Rattle.records.specs.Answer.{value};
 ghost use Prim.Native.Nat.{_+_};
-ghost use Rattle.description.specs.Format.{encode, leBytes};
-ghost use Rattle.description.specs.Sheet.{edition-one, reference, nested, tree};
-ghost use Rattle.describe.specs.References.{referenceOf};
-ghost use Rattle.describe.specs.Trees.{nestedOf, treeOf};
-ghost use Rattle.emit.specs.Emit.{Emitted, put};
-ghost use Rattle.sheet_trees.specs.Parts.{arrayBytes, arrayOf, dimensionsBytes, inlineBytes, Levelled, toldInner};
+ghost use Rattle.description.specs.Format.{leBytes};
+ghost use Rattle.sheet_trees.specs.Parts.{arrayBytes, dimensionsBytes, inlineBytes};
+ghost use Rattle.emit.specs.Emit.{Emits};
+ghost use Rattle.sheet_trees.specs.Emitted.{ArrayPut, DescriptorPut, FieldPut, HeadPut, nestedEmitted, treeEmitted, userBytes};
+ghost use Rattle.typelib.specs.Header.{library};
 
 // The most descriptions that a tree nests.
 const LEVELS: usize = 32;
@@ -37,8 +33,8 @@ pub struct Level {
 }
 
 // The tree of a type field. (Most are negative, and need nothing but their own number.)
-pub fn put_tree(s: &[u8], lib: TypeLib, field: u32, out: &mut [u8], to: usize) -> usize
-    ensures { λ r. ⌜ Emitted (map (encode (tree edition-one (lib .count))) (treeOf (now (s .entry)) lib field)) (put to) (now (out .entry)) (put r) (now (out .exit)) ⌝ }
+pub fn put_tree(s: &[u8], lib: &Numbers, field: u32, out: &mut [u8], to: usize) -> usize
+    ensures { λ r. ⌜ Emits (treeEmitted (now (s .entry)) (library (now (lib .entry))) field) to (now (out .entry)) r (now (out .exit)) ⌝ }
 {
     if NEGATIVE <= field {
         put_inline(&*s, field, out, to)
@@ -48,8 +44,8 @@ pub fn put_tree(s: &[u8], lib: TypeLib, field: u32, out: &mut [u8], to: usize) -
 }
 
 // The same, of at most `levels` descriptions; refusal 11 where there are more.
-fn put_nested(s: &[u8], lib: TypeLib, field: u32, levels: usize, out: &mut [u8], to: usize) -> usize
-    ensures { λ r. ⌜ Emitted (map (encode (nested edition-one (lib .count) levels)) (nestedOf (now (s .entry)) lib levels field)) (put to) (now (out .entry)) (put r) (now (out .exit)) ⌝ }
+fn put_nested(s: &[u8], lib: &Numbers, field: u32, levels: usize, out: &mut [u8], to: usize) -> usize
+    ensures { λ r. ⌜ Emits (nestedEmitted (now (s .entry)) (library (now (lib .entry))) levels field) to (now (out .entry)) r (now (out .exit)) ⌝ }
 {
     if levels == 0 {
         return emit::put_refusal(to, 11);
@@ -64,7 +60,7 @@ fn put_nested(s: &[u8], lib: TypeLib, field: u32, levels: usize, out: &mut [u8],
 
 // The base type that the low 12 bits of a negative field are.
 fn put_inline(s: &[u8], field: u32, out: &mut [u8], to: usize) -> usize
-    ensures { λ r. ⌜ Emitted (value (inlineBytes (now (s .entry)) field)) (put to) (now (out .entry)) (put r) (now (out .exit)) ⌝ }
+    ensures { λ r. ⌜ Emits (value (inlineBytes (now (s .entry)) field)) to (now (out .entry)) r (now (out .exit)) ⌝ }
 {
     if LIMIT < s.len() {
         emit::put_u8(out, to, 0)
@@ -74,8 +70,8 @@ fn put_inline(s: &[u8], field: u32, out: &mut [u8], to: usize) -> usize
 }
 
 // One description of a tree. (It goes by the words of the descriptor: an enum of what they mean is slow to hand on.)
-fn put_level(s: &[u8], lib: TypeLib, field: u32, out: &mut [u8], to: usize) -> Level
-    ensures { λ r. ⌜ Levelled (now (s .entry)) lib (lent (now (s .entry)) (typeDescription (now (s .entry)) lib field)) (put to) (now (out .entry)) (put (r .to)) (now (out .exit)) (toldInner (r .inner)) ⌝ }
+fn put_level(s: &[u8], lib: &Numbers, field: u32, out: &mut [u8], to: usize) -> Level
+    ensures { λ r. ⌜ FieldPut (now (s .entry)) (library (now (lib .entry))) field to (now (out .entry)) r (now (out .exit)) ⌝ }
 {
     if LIMIT < s.len() {
         return put_nothing(out, to);
@@ -83,7 +79,7 @@ fn put_level(s: &[u8], lib: TypeLib, field: u32, out: &mut [u8], to: usize) -> L
     if NEGATIVE <= field {
         return put_leaf(util::bits(field, 0, 12) as u16, out, to);
     }
-    match lib.type_desc_at(&*s, field) {
+    match descriptors::type_desc_at(lib, &*s, field) {
         PairAnswer::Value(words) => {
             // most are pointers, and need no call
             if util::bits(words.first, 0, 12) == 26 {
@@ -98,13 +94,13 @@ fn put_level(s: &[u8], lib: TypeLib, field: u32, out: &mut [u8], to: usize) -> L
 // The description that the two words of a type descriptor are.
 pub fn put_descriptor(
     s: &[u8],
-    lib: TypeLib,
+    lib: &Numbers,
     first: u32,
     second: u32,
     out: &mut [u8],
     to: usize,
 ) -> Level
-    ensures { λ r. ⌜ Levelled (now (s .entry)) lib (descriptionOf (now (s .entry)) lib (bitsOf 0 12 first) second) (put to) (now (out .entry)) (put (r .to)) (now (out .exit)) (toldInner (r .inner)) ⌝ }
+    ensures { λ r. ⌜ DescriptorPut (now (s .entry)) (library (now (lib .entry))) first second to (now (out .entry)) r (now (out .exit)) ⌝ }
 {
     let code = util::bits(first, 0, 12);
     match code {
@@ -118,7 +114,7 @@ pub fn put_descriptor(
 
 // A pointer or a safe array, by its code byte: the tree of `below` stands under it.
 fn put_over(mark: u8, below: u32, out: &mut [u8], to: usize) -> Level
-    ensures { λ r. ⌜ Emitted (value (mark ∷ [])) (put to) (now (out .entry)) (put (r .to)) (now (out .exit)) × (toldInner (r .inner) ≡ some below) ⌝ }
+    ensures { λ r. ⌜ HeadPut (mark ∷ []) (some below) to (now (out .entry)) r (now (out .exit)) ⌝ }
 {
     Level {
         to: emit::put_u8(out, to, mark),
@@ -127,7 +123,7 @@ fn put_over(mark: u8, below: u32, out: &mut [u8], to: usize) -> Level
 }
 
 fn put_nothing(out: &mut [u8], to: usize) -> Level
-    ensures { λ r. ⌜ Emitted (value (0 ∷ [])) (put to) (now (out .entry)) (put (r .to)) (now (out .exit)) × (toldInner (r .inner) ≡ none) ⌝ }
+    ensures { λ r. ⌜ HeadPut (0 ∷ []) none to (now (out .entry)) r (now (out .exit)) ⌝ }
 {
     Level {
         to: emit::put_u8(out, to, 0),
@@ -136,7 +132,7 @@ fn put_nothing(out: &mut [u8], to: usize) -> Level
 }
 
 fn put_leaf(vt: u16, out: &mut [u8], to: usize) -> Level
-    ensures { λ r. ⌜ Emitted (value (1 ∷ leBytes 2 vt)) (put to) (now (out .entry)) (put (r .to)) (now (out .exit)) × (toldInner (r .inner) ≡ none) ⌝ }
+    ensures { λ r. ⌜ HeadPut (1 ∷ leBytes 2 vt) none to (now (out .entry)) r (now (out .exit)) ⌝ }
 {
     Level {
         to: put_base(vt, out, to),
@@ -145,18 +141,18 @@ fn put_leaf(vt: u16, out: &mut [u8], to: usize) -> Level
 }
 
 fn put_base(vt: u16, out: &mut [u8], to: usize) -> usize
-    ensures { λ r. ⌜ Emitted (value (1 ∷ leBytes 2 vt)) (put to) (now (out .entry)) (put r) (now (out .exit)) ⌝ }
+    ensures { λ r. ⌜ Emits (value (1 ∷ leBytes 2 vt)) to (now (out .entry)) r (now (out .exit)) ⌝ }
 {
     emit::put_le(out, to, 1 + 256 * (vt as u64), 3)
 }
 
 // A reference. (One in this library, as most are, is emitted without a look at a table.)
-fn put_user(s: &[u8], lib: TypeLib, href: u32, out: &mut [u8], to: usize) -> Level
-    ensures { λ r. ⌜ Emitted (value (5 ∷ encode (reference edition-one (lib .count)) (referenceOf (now (s .entry)) lib href))) (put to) (now (out .entry)) (put (r .to)) (now (out .exit)) × (toldInner (r .inner) ≡ none) ⌝ }
+fn put_user(s: &[u8], lib: &Numbers, href: u32, out: &mut [u8], to: usize) -> Level
+    ensures { λ r. ⌜ HeadPut (userBytes (now (s .entry)) (library (now (lib .entry))) href) none to (now (out .entry)) r (now (out .exit)) ⌝ }
 {
     let t = emit::put_u8(out, to, 5);
     let end = if util::bits(href, 0, 2) == 0 {
-        references::put_in_this_file(&*s, lib.count, href, out, t)
+        references::put_in_this_file(&*s, lib, href, out, t)
     } else {
         references::put_reference(&*s, lib, href, out, t)
     };
@@ -167,10 +163,10 @@ fn put_user(s: &[u8], lib: TypeLib, href: u32, out: &mut [u8], to: usize) -> Lev
 }
 
 // A C array, by the offset of its descriptor.
-fn put_array_at(s: &[u8], lib: TypeLib, offset: u32, out: &mut [u8], to: usize) -> Level
-    ensures { λ r. ⌜ Levelled (now (s .entry)) lib (arrayOf (arrayDescAt (now (s .entry)) lib offset)) (put to) (now (out .entry)) (put (r .to)) (now (out .exit)) (toldInner (r .inner)) ⌝ }
+fn put_array_at(s: &[u8], lib: &Numbers, offset: u32, out: &mut [u8], to: usize) -> Level
+    ensures { λ r. ⌜ ArrayPut (now (s .entry)) (library (now (lib .entry))) offset to (now (out .entry)) r (now (out .exit)) ⌝ }
 {
-    match lib.array_desc_at(&*s, offset) {
+    match descriptors::array_desc_at(lib, &*s, offset) {
         ArrayDescAnswer::Value(desc) => Level {
             to: put_array(&*s, desc, out, to),
             inner: Inner::Field(emit::word_at(&*s, desc.at, 0x00)),
@@ -181,7 +177,7 @@ fn put_array_at(s: &[u8], lib: TypeLib, offset: u32, out: &mut [u8], to: usize) 
 
 // A C array's descriptor: the count of its dimensions, and each.
 fn put_array(s: &[u8], desc: ArrayDesc, out: &mut [u8], to: usize) -> usize
-    ensures { λ r. ⌜ Emitted (value (arrayBytes (now (s .entry)) (desc .at))) (put to) (now (out .entry)) (put r) (now (out .exit)) ⌝ }
+    ensures { λ r. ⌜ Emits (value (arrayBytes (now (s .entry)) (desc .at))) to (now (out .entry)) r (now (out .exit)) ⌝ }
 {
     let count = emit::half_at(&*s, desc.at, 0x04);
     let t = emit::put_u8(out, to, 4);
@@ -191,7 +187,7 @@ fn put_array(s: &[u8], desc: ArrayDesc, out: &mut [u8], to: usize) -> usize
 
 // The dimensions of the array descriptor at `at`, eight bytes each, behind its eight bytes.
 fn put_dimensions(s: &[u8], at: usize, count: u16, out: &mut [u8], to: usize) -> usize
-    ensures { λ r. ⌜ Emitted (value (dimensionsBytes (now (s .entry)) (at + 8) count)) (put to) (now (out .entry)) (put r) (now (out .exit)) ⌝ }
+    ensures { λ r. ⌜ Emits (value (dimensionsBytes (now (s .entry)) (at + 8) count)) to (now (out .entry)) r (now (out .exit)) ⌝ }
 {
     let mut t = to;
     let mut offset: u32 = 8;

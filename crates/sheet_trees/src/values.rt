@@ -5,22 +5,15 @@ use records::answer;
 use records::answer::I32Answer;
 use records::answer::Place;
 use records::answer::PlaceAnswer;
-use typelib::TypeLib;
-ghost use mathlib.Core.Path.{_≡_};
-ghost use Rattle.records.specs.Answer.{value};
+use typelib::Numbers;
 ghost use Rattle.records.specs.Told.{toldI32, toldPlace};
-ghost use Rattle.description.specs.Format.{encode, opt};
-ghost use Rattle.description.specs.Sheet.{u32, guid, name};
-ghost use Rattle.describe.specs.Values.{found, bytesIn};
-ghost use Rattle.describe.specs.References.{guidOf};
-ghost use Rattle.describe.specs.Members.{nameOf, nameBy, memidBy};
-ghost use Rattle.emit.specs.Emit.{Emitted, countedPart, put};
-ghost use Rattle.sheet_trees.specs.Names.{Near, nameIn, nameInBy};
-ghost use Rattle.sheet_trees.specs.Parts.{optPart};
+ghost use Rattle.emit.specs.Emit.{countedPart, Emits};
+ghost use Rattle.sheet_trees.specs.Emitted.{NearNameByPut, NearNamePut, guidEmitted, memidEmitted, nameEmitted, nameInByEmitted, nameInEmitted, partEmitted};
+ghost use Rattle.typelib.specs.Header.{library};
 
 // The bytes at a place of the library, behind their count in one byte.
 fn put_opt_counted(s: &[u8], place: PlaceAnswer, out: &mut [u8], to: usize) -> usize
-    ensures { λ r. ⌜ Emitted (value (optPart 1 (found (bytesIn (now (s .entry)) (toldPlace place))))) (put to) (now (out .entry)) (put r) (now (out .exit)) ⌝ }
+    ensures { λ r. ⌜ Emits (partEmitted 1 (now (s .entry)) (toldPlace place)) to (now (out .entry)) r (now (out .exit)) ⌝ }
 {
     match place {
         PlaceAnswer::Value(p) => put_counted(&*s, p, out, to),
@@ -29,7 +22,7 @@ fn put_opt_counted(s: &[u8], place: PlaceAnswer, out: &mut [u8], to: usize) -> u
 }
 
 fn put_counted(s: &[u8], place: Place, out: &mut [u8], to: usize) -> usize
-    ensures { λ r. ⌜ Emitted (countedPart (now (s .entry)) place) (put to) (now (out .entry)) (put r) (now (out .exit)) ⌝ }
+    ensures { λ r. ⌜ Emits (countedPart (now (s .entry)) place) to (now (out .entry)) r (now (out .exit)) ⌝ }
 {
     let end = emit::put_short_counted(&*s, place, out, to);
     if end != 0 {
@@ -42,7 +35,7 @@ fn put_counted(s: &[u8], place: Place, out: &mut [u8], to: usize) -> usize
 
 // The same with no count.
 fn put_opt_part(s: &[u8], place: PlaceAnswer, out: &mut [u8], to: usize) -> usize
-    ensures { λ r. ⌜ Emitted (value (optPart 0 (found (bytesIn (now (s .entry)) (toldPlace place))))) (put to) (now (out .entry)) (put r) (now (out .exit)) ⌝ }
+    ensures { λ r. ⌜ Emits (partEmitted 0 (now (s .entry)) (toldPlace place)) to (now (out .entry)) r (now (out .exit)) ⌝ }
 {
     match place {
         PlaceAnswer::Value(p) => {
@@ -54,30 +47,30 @@ fn put_opt_part(s: &[u8], place: PlaceAnswer, out: &mut [u8], to: usize) -> usiz
 }
 
 // The GUID at an offset.
-pub fn put_opt_guid(s: &[u8], lib: TypeLib, offset: u32, out: &mut [u8], to: usize) -> usize
-    ensures { λ r. ⌜ Emitted (value (encode (opt guid) (guidOf (now (s .entry)) lib offset))) (put to) (now (out .entry)) (put r) (now (out .exit)) ⌝ }
+pub fn put_opt_guid(s: &[u8], lib: &Numbers, offset: u32, out: &mut [u8], to: usize) -> usize
+    ensures { λ r. ⌜ Emits (guidEmitted (now (s .entry)) (library (now (lib .entry))) offset) to (now (out .entry)) r (now (out .exit)) ⌝ }
 {
-    put_opt_part(&*s, lib.guid_at(&*s, offset), out, to)
+    put_opt_part(&*s, typelib::names::guid_at(lib, &*s, offset), out, to)
 }
 
 // The name at an offset.
-pub fn put_opt_name(s: &[u8], lib: TypeLib, offset: u32, out: &mut [u8], to: usize) -> usize
-    ensures { λ r. ⌜ Emitted (value (encode (opt name) (nameOf (now (s .entry)) lib offset))) (put to) (now (out .entry)) (put r) (now (out .exit)) ⌝ }
+pub fn put_opt_name(s: &[u8], lib: &Numbers, offset: u32, out: &mut [u8], to: usize) -> usize
+    ensures { λ r. ⌜ Emits (nameEmitted (now (s .entry)) (library (now (lib .entry))) offset) to (now (out .entry)) r (now (out .exit)) ⌝ }
 {
-    put_opt_counted(&*s, lib.name_at(&*s, offset), out, to)
+    put_opt_counted(&*s, typelib::names::name_at(lib, &*s, offset), out, to)
 }
 
 // The same by names that were looked up: the library's name, if they are its own.
 pub fn put_name_in(
     s: &[u8],
-    lib: TypeLib,
+    lib: &Numbers,
     names: Names,
     offset: u32,
     out: &mut [u8],
     to: usize,
 ) -> usize
-    ensures { λ r. ⌜ Emitted (value (optPart 1 (found (bytesIn (now (s .entry)) (nameIn (now (s .entry)) lib names offset))))) (put to) (now (out .entry)) (put r) (now (out .exit)) ⌝ }
-    ensures { λ r. ⌜ (Near (now (s .entry)) lib names → Emitted (value (encode (opt name) (nameOf (now (s .entry)) lib offset))) (put to) (now (out .entry)) (put r) (now (out .exit))) ⌝ }
+    ensures { λ r. ⌜ Emits (nameInEmitted (now (s .entry)) (library (now (lib .entry))) names offset) to (now (out .entry)) r (now (out .exit)) ⌝ }
+    ensures { λ r. ⌜ NearNamePut (now (s .entry)) (library (now (lib .entry))) names offset to (now (out .entry)) r (now (out .exit)) ⌝ }
 {
     match names::name_at(&*s, lib, names, offset) {
         PlaceAnswer::Value(p) => put_counted(&*s, p, out, to),
@@ -88,14 +81,14 @@ pub fn put_name_in(
 // A member's name: missing where its offset is.
 pub fn put_name_by(
     s: &[u8],
-    lib: TypeLib,
+    lib: &Numbers,
     names: Names,
     offset: I32Answer,
     out: &mut [u8],
     to: usize,
 ) -> usize
-    ensures { λ r. ⌜ Emitted (value (optPart 1 (nameInBy (now (s .entry)) lib names (toldI32 offset)))) (put to) (now (out .entry)) (put r) (now (out .exit)) ⌝ }
-    ensures { λ r. ⌜ (Near (now (s .entry)) lib names → Emitted (value (encode (opt name) (nameBy (now (s .entry)) lib (toldI32 offset)))) (put to) (now (out .entry)) (put r) (now (out .exit))) ⌝ }
+    ensures { λ r. ⌜ Emits (nameInByEmitted (now (s .entry)) (library (now (lib .entry))) names (toldI32 offset)) to (now (out .entry)) r (now (out .exit)) ⌝ }
+    ensures { λ r. ⌜ NearNameByPut (now (s .entry)) (library (now (lib .entry))) names (toldI32 offset) to (now (out .entry)) r (now (out .exit)) ⌝ }
 {
     let I32Answer::Value(x) = offset else {
         return emit::put_u8(out, to, 0);
@@ -105,7 +98,7 @@ pub fn put_name_by(
 
 // A member's identifier.
 pub fn put_opt_memid(memid: I32Answer, out: &mut [u8], to: usize) -> usize
-    ensures { λ r. ⌜ Emitted (value (encode (opt u32) (memidBy (toldI32 memid)))) (put to) (now (out .entry)) (put r) (now (out .exit)) ⌝ }
+    ensures { λ r. ⌜ Emits (memidEmitted (toldI32 memid)) to (now (out .entry)) r (now (out .exit)) ⌝ }
 {
     let I32Answer::Value(x) = memid else {
         return emit::put_u8(out, to, 0);

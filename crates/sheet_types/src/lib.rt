@@ -3,8 +3,9 @@ use records::typeinfo::TypeInfoEntry;
 use sheet_members::functions;
 use sheet_members::variables;
 use sheet_trees::values;
+use typelib::Numbers;
 use typelib::TypeInfoIndex;
-use typelib::TypeLib;
+use typelib::typeinfos;
 use typelib::typeinfos::TypeInfoAnswer;
 ghost use mathlib.Core.Path.{_≡_};
 ghost use Rattle.records.specs.Answer.{value, map};
@@ -15,17 +16,17 @@ ghost use Rattle.emit.specs.Emit.{Emitted, put};
 ghost use Rattle.sheet_bases.specs.Types.{headBytes, namesBytes};
 
 // Type `index` of the library; 6, 7 or 8 where there is none.
-pub fn put_type_of(s: &[u8], lib: TypeLib, index: usize, out: &mut [u8], to: usize) -> usize
-    ensures { λ r. ⌜ Emitted (map (encode (typeInfo edition-one (lib .count))) (typeOf (now (s .entry)) lib index)) (put to) (now (out .entry)) (put r) (now (out .exit)) ⌝ }
+pub fn put_type_of(s: &[u8], lib: &Numbers, index: TypeInfoIndex, out: &mut [u8], to: usize) -> usize
+    ensures { λ r. ⌜ Emits (typeEmitted (now (s .entry)) (library (now (lib .entry))) (index .0)) to (now (out .entry)) r (now (out .exit)) ⌝ }
 {
-    match lib.typeinfo(&*s, TypeInfoIndex(index)) {
+    match typeinfos::typeinfo_at(lib, &*s, index) {
         TypeInfoAnswer::Value(ti) => put_type(&*s, lib, ti, out, to),
         TypeInfoAnswer::Refused(n) => emit::put_refusal(to, n),
     }
 }
 
-fn put_type(s: &[u8], lib: TypeLib, ti: TypeInfoEntry, out: &mut [u8], to: usize) -> usize
-    ensures { λ r. ⌜ Emitted (map (encode (typeInfo edition-one (lib .count))) (typeAt (now (s .entry)) lib ti)) (put to) (now (out .entry)) (put r) (now (out .exit)) ⌝ }
+fn put_type(s: &[u8], lib: &Numbers, ti: TypeInfoEntry, out: &mut [u8], to: usize) -> usize
+    ensures { λ r. ⌜ Emits (typeAtEmitted (now (s .entry)) (library (now (lib .entry))) ti) to (now (out .entry)) r (now (out .exit)) ⌝ }
 {
     let kind = util::bits(emit::word_at(&*s, ti.at, 0x00), 0, 4);
     let t = put_head(&*s, ti.at, kind, out, to);
@@ -37,7 +38,7 @@ fn put_type(s: &[u8], lib: TypeLib, ti: TypeInfoEntry, out: &mut [u8], to: usize
 
 // The kind, the flags and the version.
 fn put_head(s: &[u8], at: usize, kind: u32, out: &mut [u8], to: usize) -> usize
-    ensures { λ r. ⌜ Emitted (value (headBytes (now (s .entry)) at kind)) (put to) (now (out .entry)) (put r) (now (out .exit)) ⌝ }
+    ensures { λ r. ⌜ Emits (value (headBytes (now (s .entry)) at kind)) to (now (out .entry)) r (now (out .exit)) ⌝ }
 {
     let t = emit::put_le(out, to, kind as u64, 1);
     let t = emit::copy_u32(&*s, at, 0x30, out, t);
@@ -45,8 +46,8 @@ fn put_head(s: &[u8], at: usize, kind: u32, out: &mut [u8], to: usize) -> usize
 }
 
 // The GUID, the name, and how many functions and variables are declared.
-fn put_names(s: &[u8], lib: TypeLib, at: usize, out: &mut [u8], to: usize) -> usize
-    ensures { λ r. ⌜ Emitted (value (namesBytes (now (s .entry)) lib at)) (put to) (now (out .entry)) (put r) (now (out .exit)) ⌝ }
+fn put_names(s: &[u8], lib: &Numbers, at: usize, out: &mut [u8], to: usize) -> usize
+    ensures { λ r. ⌜ Emits (value (namesBytes (now (s .entry)) (library (now (lib .entry))) at)) to (now (out .entry)) r (now (out .exit)) ⌝ }
 {
     let declared = emit::word_at(&*s, at, 0x18);
     let t = values::put_opt_guid(&*s, lib, emit::word_at(&*s, at, 0x2C), out, to);

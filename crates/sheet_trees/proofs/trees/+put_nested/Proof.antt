@@ -14,16 +14,16 @@ use Rattle.sheet_trees.proofs.trees.put_level.Reads as put-level-reads
 use Rattle.sheet_trees.proofs.trees.+put_nested.{statement}
 use Rattle.sheet_trees.proofs.trees.+put_nested.Tie.{close}
 
-abbrev μ-put-nested : Measures 2 put-nested-kinds.ps ℕ
+abbrev μ-put-nested : Measures 3 put-nested-kinds.ps ℕ
 μ-put-nested κs a = a .1 .1 .1 .0
 
-abbrev put-nested-at : ℕ → In 2 put-nested-kinds.ps
+abbrev put-nested-at : ℕ → In 3 put-nested-kinds.ps
 put-nested-at t =
-    and 2 put-nested-kinds.ps (is 2 put-nested-kinds.ps μ-put-nested t) put-nested.Pre
+    and 3 put-nested-kinds.ps (is 3 put-nested-kinds.ps μ-put-nested t) put-nested.Pre
 
-abbrev put-nested-below : ℕ → In 2 put-nested-kinds.ps
+abbrev put-nested-below : ℕ → In 3 put-nested-kinds.ps
 put-nested-below t =
-    and 2 put-nested-kinds.ps (falls 2 put-nested-kinds.ps _<_ μ-put-nested t) put-nested.Pre
+    and 3 put-nested-kinds.ps (falls 3 put-nested-kinds.ps _<_ μ-put-nested t) put-nested.Pre
 
 -- what its callees ask and give, at the measure t
 abbrev claims : ℕ → put-nested-lts.Claims

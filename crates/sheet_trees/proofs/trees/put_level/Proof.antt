@@ -1,3 +1,4 @@
+use Rattle.typelib.specs.Header.{library}
 use mathlib.Core.Path.{refl, _∙_, sym}
 use Rattle.typelib.specs.Told.{toldPair}
 use Rattle.records.specs.AnswerLaws.{tells, bind-value, bind-refused}
@@ -50,7 +51,7 @@ same-length-3 c = search needs
 
 returns-3 : tie.Need-returns-3
 unfolding descriptionOf
-returns-3 c = level-as _ _ (lent-fits _ _ _ (c .before .before .before .before .before .before .before .before .before .before .before .if1 .left) (field-entry _ _ _ _ (c .before .before .before .before .before .before .before .before .before .before .if2 .left) (bind-value _ _ _ _ (tells toldPair (c .before .before .before .before .before .before .before .words .given .1) (c .before .before .before .before .before .before .before .before .before .type-desc-at .ensures)) refl))) (level-as _ _ (description-case 26 (c .before .before .before .before .before .before .before .before .before .before .before .before .before .before .args .s .now) (c .before .before .before .before .before .before .before .before .before .before .before .before .before .before .args .lib) _ (c .before .before .before .before .before .before .before .words .given .0 .0 .second) _ (sym (c .before .before .before .before .before .bits2 .ensures) ∙ c .before .before .before .before .if3 .taken) refl) (level-pointer _ _ (search needs) (c .before .before .put-over .ensures)))
+returns-3 c = level-as _ _ (lent-fits _ _ _ (c .before .before .before .before .before .before .before .before .before .before .before .if1 .left) (field-entry _ _ _ _ (c .before .before .before .before .before .before .before .before .before .before .if2 .left) (bind-value _ _ _ _ (tells toldPair (c .before .before .before .before .before .before .before .words .given .1) (c .before .before .before .before .before .before .before .before .before .type-desc-at .ensures)) refl))) (level-as _ _ (description-case 26 (c .before .before .before .before .before .before .before .before .before .before .before .before .before .before .args .s .now) (library (c .before .before .before .before .before .before .before .before .before .before .before .before .before .before .args .lib .now)) _ (c .before .before .before .before .before .before .before .words .given .0 .0 .second) _ (sym (c .before .before .before .before .before .bits2 .ensures) ∙ c .before .before .before .before .if3 .taken) refl) (level-pointer _ _ (search needs) (c .before .before .put-over .ensures)))
 
 put-descriptor-requires : tie.Need-put-descriptor-requires
 put-descriptor-requires c κs = search needs

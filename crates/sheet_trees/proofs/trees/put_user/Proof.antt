@@ -1,3 +1,4 @@
+use Rattle.typelib.specs.Header.{library}
 use mathlib.Core.Path.{_≡_, refl}
 use Rattle.sheet_trees.proofs.PartLaws.{here-referred}
 use native.Mathlib.Omega.{arith}
@@ -22,7 +23,7 @@ same-length : tie.Need-same-length
 same-length c = search needs
 
 returns : tie.Need-returns
-returns c = (join (c .before .before .before .before .before .before .before .before .put-u8 .ensures) (known (here-referred _ _ _ (omega (arith, c .before .before .before .before .before .bits .ensures))) (c .before .before .put-in-this-file .ensures)), refl)
+returns c = (join (c .before .before .before .before .before .before .before .before .put-u8 .ensures) (known (here-referred _ (library (c .before .before .before .before .before .before .before .before .before .before .before .before .args .lib .now)) _ (omega (arith, c .before .before .before .before .before .bits .ensures))) (c .before .before .put-in-this-file .ensures)), refl)
 
 same-length-2 : tie.Need-same-length-2
 same-length-2 c = search needs
