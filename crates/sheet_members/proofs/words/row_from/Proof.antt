@@ -1,14 +1,12 @@
-use Rattle.sheet_members.proofs.WordLaws.{row-beyond, row-there}
-use native.Mathlib.Omega.{arith}
 use borrow.Author.Needs.{needs}
 use Rattle.sheet_members.proofs.words.row_from.Statement.{statement}
 use Rattle.sheet_members.proofs.words.row_from.Tie as tie
 
 returns : tie.Need-returns
-returns c = row-beyond _ _ _ (omega arith)
+returns c = search needs
 
 returns-2 : tie.Need-returns-2
-returns-2 c = row-beyond _ _ _ (omega arith)
+returns-2 c = search needs
 
 mul-result : tie.Need-mul-result
 mul-result c = search needs
@@ -17,7 +15,7 @@ add-result : tie.Need-add-result
 add-result c = search needs
 
 returns-3 : tie.Need-returns-3
-returns-3 c = row-there _ _ _ (omega arith)
+returns-3 c = search needs
 
 pub row-from-spec : {M : Type 1} → statement M
 row-from-spec = tie.close (tie.spec returns returns-2 mul-result add-result returns-3)
