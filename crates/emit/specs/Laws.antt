@@ -36,6 +36,10 @@ pub sets-behind : (bs l : List ℕ) (n i : ℕ) → n ≤ i → take n (sets l i
 sets-behind [] l n i h = refl
 sets-behind (b ∷ bs) l n i h = sets-behind bs (set l i b) n (suc i) (omega arith) ∙ take-set-le n l i b h
 
+-- what is the same of two lists is so of fewer
+pub take-less : (n m : ℕ) (l k : List ℕ) → n ≤ m → take m l ≡ take m k → take n l ≡ take n k
+take-less n m l k h e = sym (take-take n m l h) ∙ ap (take n) e ∙ take-take n m k h
+
 -- a run, and what stands before it
 pub sets-front : (bs l : List ℕ) (i : ℕ) → i + length bs ≤ length l → take (i + length bs) (sets l i bs) ≡ take i l ++ bs
 sets-front bs l i h =
@@ -101,9 +105,7 @@ moved-join (refused n) y (Refused m) = refl
 -- what is spared where an emission ends is spared where it began
 spared-before : (x : Answer Bytes) (t : Put) (o o′ : List ℕ) → spared (moved t x) o′ ≡ spared (moved t x) o → spared t o′ ≡ spared t o
 unfolding advance
-spared-before (value bs) (At p) o o′ e =
-    let q : ℕ = max p (min (p + length bs) past) in
-    sym (take-take p q o′ (omega arith)) ∙ ap (take p) e ∙ take-take p q o (omega arith)
+spared-before (value bs) (At p) o o′ e = take-less p (max p (min (p + length bs) past)) o′ o (omega arith) e
 spared-before (refused n) (At p) o o′ e = ap (take p) e
 spared-before x (Refused m) o o′ e = e
 
@@ -288,10 +290,18 @@ unfolding overwritten
 over-keeps {bs} {o} (At p) w = ap length (w .over) ∙ over-elim (λ z. length z ≡ length o) bs p o (λ _. length-sets o p bs) refl
 over-keeps (Refused m) w = ap length (w .over)
 
+-- what stands before the place is spared
+over-behind : {bs o o′ : List ℕ} (p n : ℕ) → n ≤ p → Overwritten bs (At p) o o′ → take n o′ ≡ take n o
+over-behind {bs} {o} p n h w = ap (take n) (w .over) ∙ over-elim (λ z. take n z ≡ take n o) bs p o (λ _. sets-behind bs o n p h) refl
+
 over-spares : {bs o o′ : List ℕ} (t : Put) → Overwritten bs t o o′ → spared t o′ ≡ spared t o
 unfolding overwritten
-over-spares {bs} {o} (At p) w = ap (take p) (w .over) ∙ over-elim (λ z. take p z ≡ take p o) bs p o (λ _. sets-behind bs o p p (omega arith)) refl
+over-spares (At p) w = over-behind p p (omega arith) w
 over-spares (Refused m) w = w .over
+
+pub over-before : {bs o o′ : List ℕ} (p n : ℕ) → n ≤ p → Overwritten bs (put p) o o′ → take n o′ ≡ take n o
+unfolding overwritten
+over-before {bs} {o} {o′} p n h = put-elim (λ t. Overwritten bs t o o′ → take n o′ ≡ take n o) p (λ _. over-behind p n h) (λ _ w. ap (take n) (w .over))
 
 -- the three ways of it: they are stored; there is no room for them; the place is a refusal
 pub over-stored : {o o′ bs : List ℕ} (p : ℕ) {n : ℕ} → p ≤ past → length bs ≡ n → p + n ≤ length o → o′ ≡ sets o p bs → Overwritten bs (put p) o o′

@@ -1,8 +1,9 @@
-// Emitters: each writes bytes at a place of the output and replies the place behind them.
+// Emitters: each stores bytes at a place of the output and replies the place behind them.
 //
-// A refusal stays in the place and passes through, so that a row of emitters is a straight line; and
-// where the output has no room an emitter only counts, so that one traversal both measures (over an
-// empty output) and writes. A place and a refusal are one number, since an enum is slow to hand on.
+// A refusal stays in the place and passes through, with the output as it was, so that a row of emitters is a straight line.
+// Bytes that have no room in the output are only counted: over an output of no bytes an emitter measures. Nothing that stands before
+// its place changes, whatever happens. Behind the place that it replies it may store too: the next emitter goes over that.
+// A place and a refusal are one number, since an enum is slow to hand on.
 use records::answer;
 use records::answer::Place;
 use records::answer::PlaceAnswer;
