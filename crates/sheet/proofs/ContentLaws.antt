@@ -25,7 +25,7 @@ use Rattle.describe.specs.Describe.{headerOf}
 use Rattle.emit.specs.Emit.{Put}
 use Rattle.emit.specs.Emit.{At, Refused, past, put}
 use Rattle.emit.specs.Emit.{_▸_, advance, moved, Emitted, overwritten, Overwritten}
-use Rattle.emit.specs.Laws.{put-at, put-refused, place-is, sets-append, sets-append-front, sets-front, take-sets, take-less, advance-within, moved-join, skip, known, over-room, over-keeps, over-before}
+use Rattle.emit.specs.Laws.{put-at, put-refused, sets-append, sets-append-front, sets-front, take-sets, take-less, advance-within, moved-join, skip, known, over-room, over-keeps, over-before}
 use Rattle.sheet_members.specs.Lists.{layAll, all-laid, Sized, sized, unsized, all-sized}
 use Rattle.sheet_members.specs.Bodies.{bodies, bodies-more}
 use Rattle.sheet.specs.Contents.{sheetEmitted, lenOf, lensOf, distanced, Patched, LaidTwo, sparedTwo, Twofold}
