@@ -104,6 +104,13 @@ before b ks o o₁ c p h l e =
     ∙ sets-append-front fs (take p o) b c (omega (arith, n))
     ∙ ap (λ (z : List ℕ). z ++ b) (sym (take-sets fs o p c h))
 
+-- what is spared where a body ends is spared where it began
+spared-later : (x : Answer Bytes) (c p : ℕ) (o o′ : List ℕ) → sparedTwo (c + 4) (moved (At p) x) o′ ≡ sparedTwo (c + 4) (moved (At p) x) o
+    → take (min c p) o′ ≡ take (min c p) o
+unfolding advance
+spared-later (value b) c p o o′ w = take-less (min c p) (min (c + 4) (max p (min (p + length b) past))) o′ o (omega arith) w
+spared-later (refused n) c p o o′ w = ap (take (min c p)) w
+
 module _ {c : ℕ} {u : Put} {o o₁ o₂ : List ℕ} (o₃ : List ℕ) where
   lays : (x ls xs : Answer Bytes) (t : Put) → Emitted x t o u o₁ → Patched t u c o₁ o₂ → LaidTwo ls xs (c + 4) u o₂ o₃ → LaidTwo (lenOf x ▸ ls) (x ▸ xs) c t o o₃
   lays (value b) (value ks) (value bs) (At p) a f w = λ h k l.
@@ -128,15 +135,10 @@ module _ {c : ℕ} {u : Put} {o o₁ o₂ : List ℕ} (o₃ : List ℕ) where
   lays (value b) (refused n) xs t a f w = tt
   lays (refused n) ls xs t a f w = tt
 
-  -- what is spared where an emission ends is spared where it began
-  spared-later : (x : Answer Bytes) (p : ℕ) → sparedTwo (c + 4) (moved (At p) x) o₃ ≡ sparedTwo (c + 4) (moved (At p) x) o₂ → take (min c p) o₃ ≡ take (min c p) o₂
-  unfolding advance
-  spared-later (value b) p w = take-less (min c p) (min (c + 4) (max p (min (p + length b) past))) o₃ o₂ (omega arith) w
-  spared-later (refused n) p w = ap (take (min c p)) w
-
   spares : (x : Answer Bytes) (t : Put) → Emitted x t o u o₁ → Patched t u c o₁ o₂ → sparedTwo (c + 4) u o₃ ≡ sparedTwo (c + 4) u o₂ → sparedTwo c t o₃ ≡ sparedTwo c t o
   unfolding distanced
-  spares x (At p) a f w = spared-later x p (rw (a .moves) at w) ∙ patch-spares (At p) u (min c p) c (omega arith) f ∙ take-less (min c p) p o₁ o (omega arith) (a .spares)
+  spares x (At p) a f w =
+      spared-later x c p o₂ o₃ (rw (a .moves) at w) ∙ patch-spares (At p) u (min c p) c (omega arith) f ∙ take-less (min c p) p o₁ o (omega arith) (a .spares)
   spares x (Refused m) a f w = (rw (a .moves) at w) ∙ f .puts ∙ a .spares
 
 two-more : {x ls xs : Answer Bytes} {c : ℕ} {t u r : Put} {o o₁ o₂ o₃ : List ℕ}
