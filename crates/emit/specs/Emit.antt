@@ -52,25 +52,48 @@ Laid (At p) (value bs) o o′ = p + length bs ≤ limit → p + length bs ≤ le
 Laid (At p) (refused n) o o′ = Unit {0}
 Laid (Refused m) x o o′ = Unit {0}
 
+-- What it leaves alone, whatever happens (a refusal, no room): what stands before its place; called at a refusal, all of the output.
+abbrev pub spared : Put → List ℕ → List ℕ
+spared (At p) o = take p o
+spared (Refused m) o = o
+
 -- THE CONTRACT OF EVERY EMITTER: called at the place t with the output o, it emitted x, ended at r and left o′
 pub record Emitted (x : Answer Bytes) (t : Put) (o : List ℕ) (r : Put) (o′ : List ℕ) : Type 0 where
   pub moves : r ≡ moved t x
   pub lays : Laid t x o o′
+  pub spares : spared t o′ ≡ spared t o
   pub keeps : length o′ ≡ length o
 
 -- the same with the numbers that stand for the two places in the code
 abbrev pub Emits : Answer Bytes → ℕ → List ℕ → ℕ → List ℕ → Type 0
 Emits x to o r o′ = Emitted x (put to) o (put r) o′
 
--- bytes that went over what stood at the place t, where there is room for them; nothing else of the output changed
-pub record Overwritten (bs : Bytes) (t : Put) (o o′ : List ℕ) : Type 0 where
-  pub over : (p : ℕ) → t ≡ At p → p + length bs ≤ limit → p + length bs ≤ length o → o′ ≡ sets o p bs
-  pub keeps : length o′ ≡ length o
+-- THE OUTPUT WITH BYTES OVER what stands at a place, where there is room for them; as it was where there is none, and at a refusal
+unfoldable pub overwritten : Bytes → Put → List ℕ → List ℕ
+overwritten bs (At p) o = cond (leb (p + length bs) (length o)) (sets o p bs) o
+overwritten bs (Refused m) o = o
 
--- x was emitted, or r is 0 and nothing was done
-pub record Tried (x : Answer Bytes) (to : ℕ) (o : List ℕ) (r : ℕ) (o′ : List ℕ) : Type 0 where
+pub record Overwritten (bs : Bytes) (t : Put) (o o′ : List ℕ) : Type 0 where
+  pub over : o′ ≡ overwritten bs t o
+
+-- a part of at most so many bytes is short
+abbrev pub short : ℕ
+short = 32
+
+-- WHERE THE SHORT WAY IS TAKEN: the part of the library is short, and the longest that is would be inside the library there and, behind
+-- two bytes, have room in the output and within its limit
+pub record Short (s : List ℕ) (part : Place) (to : ℕ) (o : List ℕ) : Type 0 where
+  pub few : part .len ≤ short
+  pub within : to + (2 + short) ≤ past
+  pub inside : part .at + short ≤ length s
+  pub room : to + (2 + short) ≤ length o
+
+-- x was emitted, which is so just where P; otherwise r is 0 and nothing was done
+pub record Tried (P : Type 0) (x : Answer Bytes) (to : ℕ) (o : List ℕ) (r : ℕ) (o′ : List ℕ) : Type 0 where
   pub none : r ≡ 0 → o′ ≡ o
   pub done : (r ≡ 0 → ⊥) → Emitted x (put to) o (put r) o′
+  pub tries : P → r ≡ 0 → ⊥
+  pub only : (r ≡ 0 → ⊥) → P
 
 -- byte 1, the length in one byte and the bytes at a place of the library
 unfoldable pub countedPart : List ℕ → Place → Answer Bytes

@@ -1,5 +1,6 @@
 -- The laws of emitters. Assumes nothing.
 use mathlib.Core.Path.{_≡_, refl, sym, ap, ap₂, _∙_}
+use mathlib.Core.Bool.{false}
 use mathlib.Core.List.{List, [], _∷_, _++_, append-nil, append-assoc}
 use Prim.Native.Nat.{ℕ, zero, suc, _+_, _*_, _^_, _-_, _/_, _%_, _≤_, _<_, min, max}
 use native.Mathlib.Nat.{zero-add, add-zero, add-suc, suc-add, pow-succ', mul-assoc}
@@ -8,14 +9,14 @@ use lib.Dec.{leb}
 use borrow.Author.Tests.{le-leb, lt-leb, leb-true, leb-false}
 use lib.ListN.{length, getD, set, drop, take, length-set, length-append, length-drop, take-append-drop, drop-of-length-le}
 use native.Mathlib.Numerals.{add-one}
-use lib.Seq.{drop-cons, sets, length-sets, sets-eq, set-append-left, take-all, take-set-lt, take-at, drop-at, drop-drop, take-add, length-take-le}
+use lib.Seq.{drop-cons, sets, length-sets, sets-eq, set-append-left, take-all, take-set-le, take-set-lt, take-take, take-at, drop-at, drop-drop, take-add, length-take-le}
 use Rattle.util.specs.Read.{read, orZero, cond-elim, read-none}
 use Rattle.records.specs.Answer.{Answer, value, refused}
 use Rattle.records.specs.declared.answer.Place.{Place}
 use Rattle.records.specs.Record.{limit, partOf}
 use Rattle.description.specs.Description.{Bytes}
 use Rattle.description.specs.Format.{leBytes, length-leBytes}
-use Rattle.emit.specs.Emit.{_▸_, Put, At, Refused, past, put, advance, moved, Laid, Emitted, Overwritten, Tried, countedPart}
+use Rattle.emit.specs.Emit.{_▸_, Put, At, Refused, past, put, advance, moved, Laid, spared, Emitted, overwritten, Overwritten, short, Short, Tried, countedPart}
 
 -- ---- runs of stores
 
@@ -29,6 +30,15 @@ sets-append (x ∷ xs) ys l i =
 pub take-sets : (bs l : List ℕ) (n i : ℕ) → i + length bs ≤ n → take n (sets l i bs) ≡ sets (take n l) i bs
 take-sets [] l n i h = refl
 take-sets (b ∷ bs) l n i h = take-sets bs (set l i b) n (suc i) (omega arith) ∙ ap (λ (k : List ℕ). sets k (suc i) bs) (take-set-lt n l i b (omega arith))
+
+-- a run behind the first n
+pub sets-behind : (bs l : List ℕ) (n i : ℕ) → n ≤ i → take n (sets l i bs) ≡ take n l
+sets-behind [] l n i h = refl
+sets-behind (b ∷ bs) l n i h = sets-behind bs (set l i b) n (suc i) (omega arith) ∙ take-set-le n l i b h
+
+-- what is the same of two lists is so of fewer
+pub take-less : (n m : ℕ) (l k : List ℕ) → n ≤ m → take m l ≡ take m k → take n l ≡ take n k
+take-less n m l k h e = sym (take-take n m l h) ∙ ap (take n) e ∙ take-take n m k h
 
 -- a run, and what stands before it
 pub sets-front : (bs l : List ℕ) (i : ℕ) → i + length bs ≤ length l → take (i + length bs) (sets l i bs) ≡ take i l ++ bs
@@ -81,8 +91,8 @@ advance-past p n h = omega arith
 
 -- nothing is emitted
 pub skip : (t : Put) (o : List ℕ) → Emitted (value []) t o t o
-skip (At p) o = record { moves = ap At (sym (advance-none p)); lays = λ h k. rw (add-zero p) (sym (append-nil (take p o))); keeps = refl }
-skip (Refused m) o = record { moves = refl; lays = tt; keeps = refl }
+skip (At p) o = record { moves = ap At (sym (advance-none p)); lays = λ h k. rw (add-zero p) (sym (append-nil (take p o))); spares = refl; keeps = refl }
+skip (Refused m) o = record { moves = refl; lays = tt; spares = refl; keeps = refl }
 
 pub moved-join : (x y : Answer Bytes) (t : Put) → moved (moved t x) y ≡ moved t (x ▸ y)
 moved-join (value a) (value b) (At p) = ap At (advance-add p (length a) (length b) ∙ ap (advance p) (sym (length-append a b)))
@@ -92,12 +102,20 @@ moved-join (value a) (value b) (Refused m) = refl
 moved-join (value a) (refused n) (Refused m) = refl
 moved-join (refused n) y (Refused m) = refl
 
+-- what is spared where an emission ends is spared where it began
+spared-before : (x : Answer Bytes) (t : Put) (o o′ : List ℕ) → spared (moved t x) o′ ≡ spared (moved t x) o → spared t o′ ≡ spared t o
+unfolding advance
+spared-before (value bs) (At p) o o′ e = take-less p (max p (min (p + length bs) past)) o′ o (omega arith) e
+spared-before (refused n) (At p) o o′ e = ap (take p) e
+spared-before x (Refused m) o o′ e = e
+
 -- one emission, and another where it ended
 pub join : {x y : Answer Bytes} {t s r : Put} {o o₁ o₂ : List ℕ} → Emitted x t o s o₁ → Emitted y s o₁ r o₂ → Emitted (x ▸ y) t o r o₂
 join {x} {y} {t} {s} {r} {o} {o₁} {o₂} a b =
     record {
       moves = b .moves ∙ ap (λ (u : Put). moved u y) (a .moves) ∙ moved-join x y t;
       lays = lays x y t (a .keeps) (a .lays) (rw (a .moves) at (b .lays));
+      spares = spared-before x t o₁ o₂ (rw (a .moves) at (b .spares)) ∙ a .spares;
       keeps = b .keeps ∙ a .keeps;
     }
   where
@@ -152,12 +170,17 @@ put-moved p bs =
     (λ h. put-at (max p (min (p + length bs) past)) (omega arith))
     (λ h. let e : max p (min (p + length bs) past) ≡ p = omega arith in rw e (put-refused p h))
 
+-- bytes that go to a place, or behind it, leave what stands before it
+spared-stored : (o o′ bs : List ℕ) (p : ℕ) → p ≤ past → o′ ≡ sets o p bs → spared (put p) o′ ≡ spared (put p) o
+spared-stored o o′ bs p f h = rw (put-at p f) (ap (take p) h ∙ sets-behind bs o p p (omega arith))
+
 -- the bytes are stored at p
 pub stored : {o o′ bs : List ℕ} (p : ℕ) {n : ℕ} → p + n ≤ past → length bs ≡ n → o′ ≡ sets o p bs → Emitted (value bs) (put p) o (put (p + n)) o′
 stored {o} {o′} {bs} p {n} f g h =
     record {
       moves = ap put (advance-to p n f ∙ ap (advance p) (sym g)) ∙ put-moved p bs;
       lays = put-elim (λ t. Laid t (value bs) o o′) p (λ _ k l. ap (take (p + length bs)) h ∙ sets-front bs o p l) (λ _. tt);
+      spares = spared-stored o o′ bs p (omega arith) h;
       keeps = ap length h ∙ length-sets o p bs;
     }
 
@@ -167,15 +190,17 @@ unstored {o} {bs} p {n} f g h =
     record {
       moves = ap put (advance-to p n f ∙ ap (advance p) (sym g)) ∙ put-moved p bs;
       lays = put-elim (λ t. Laid t (value bs) o o) p (λ _ k l. absurd (omega (arith, g))) (λ _. tt);
+      spares = refl;
       keeps = refl;
     }
 
--- they would end past the limit: nothing is said of the output then
+-- they would end past the limit
 pub stopped-past : {o bs : List ℕ} (p : ℕ) {n q : ℕ} → q ≡ max p past → length bs ≡ n → past < p + n → Emitted (value bs) (put p) o (put q) o
 stopped-past {o} {bs} p {n} {q} f g h =
     record {
       moves = ap put (f ∙ advance-past p n h ∙ ap (advance p) (sym g)) ∙ put-moved p bs;
       lays = put-elim (λ t. Laid t (value bs) o o) p (λ _ k l. absurd (omega (arith, g))) (λ _. tt);
+      spares = refl;
       keeps = refl;
     }
 
@@ -186,6 +211,7 @@ stored-more {o} {o′} {bs} more p {n} f g k h =
     record {
       moves = ap put (advance-to p n f ∙ ap (advance p) (sym g)) ∙ put-moved p bs;
       lays = put-elim (λ t. Laid t (value bs) o o′) p (λ _ _ _. front) (λ _. tt);
+      spares = spared-stored o o′ (bs ++ more) p (omega arith) h;
       keeps = ap length h ∙ length-sets o p (bs ++ more);
     }
   where
@@ -220,43 +246,85 @@ pub part-length : (s : List ℕ) (q : Place) → q .at + q .len ≤ length s →
 unfolding partOf
 part-length s q h = rw (le-leb (q .at + q .len) (length s) h) (length-take-le (q .len) (drop (q .at) s) (simp length-drop (omega arith)))
 
--- the same behind its length
-pub counted-stored : (s : List ℕ) (q : Place) (k p : ℕ) {r : ℕ} {o o₁ o₂ : List ℕ} → q .len ≤ k → k < 256 → p + 2 + q .len ≤ past → q .at + k ≤ length s
-    → p + (2 + k) ≤ length o → o₁ ≡ sets o p (leBytes 2 (1 + 256 * q .len)) → o₂ ≡ sets o₁ (p + 2) (take (q .at + k - q .at) (drop (q .at) s))
-    → r ≡ p + 2 + q .len → Tried (countedPart s q) p o r o₂
+-- the same behind its length, by the short way
+pub counted-stored : (s : List ℕ) (q : Place) (p : ℕ) {r : ℕ} {o o₁ o₂ : List ℕ} → Short s q p o → o₁ ≡ sets o p (leBytes 2 (1 + 256 * q .len))
+    → o₂ ≡ sets o₁ (p + 2) (take (q .at + short - q .at) (drop (q .at) s)) → r ≡ p + 2 + q .len → Tried (Short s q p o) (countedPart s q) p o r o₂
 unfolding countedPart
-counted-stored s q k p {r} {o} {o₁} {o₂} f b g h l e₁ e₂ m =
+counted-stored s q p {r} {o} {o₁} {o₂} h e₁ e₂ m =
     let n : length (partOf s (value q)) ≡ q .len = part-length s q (omega arith) in
     let v : 1 + 256 * q .len ≡ 1 + 256 * (length (partOf s (value q)) % 256) = omega (arith, n) in
     let w : length o₁ ≡ length o = ap length e₁ ∙ length-sets o p (leBytes 2 (1 + 256 * q .len)) in
     let a : Emitted (value (leBytes 2 (1 + 256 * (length (partOf s (value q)) % 256)))) (put p) o (put (p + 2)) o₁ =
     stored p (omega arith) (length-leBytes 2 (1 + 256 * (length (partOf s (value q)) % 256))) (e₁ ∙ ap (λ (x : ℕ). sets o p (leBytes 2 x)) v) in
-    record { none = λ z. absurd (omega (arith, m, z)); done = λ _. rw m (join a (part-stored s q k (p + 2) f g h (omega (arith, w)) e₂)) }
+    record {
+      none = λ z. absurd (omega (arith, m, z));
+      done = λ _. rw m (join a (part-stored s q short (p + 2) (h .few) (omega arith) (h .inside) (omega (arith, w)) e₂));
+      tries = λ _ z. omega (arith, m, z);
+      only = λ _. h;
+    }
 
-pub not-tried : {x : Answer Bytes} {to : ℕ} {o : List ℕ} → Tried x to o 0 o
-not-tried = record { none = λ _. refl; done = λ h. absurd (h refl) }
+-- where there is no room
+pub no-room : (n m : ℕ) → leb n m ≡ false → n ≤ m → ⊥
+no-room n m e h = omega (arith, leb-false n m e)
+
+pub not-tried : {P : Type 0} {x : Answer Bytes} {to : ℕ} {o : List ℕ} → (P → ⊥) → Tried P x to o 0 o
+not-tried n = record { none = λ _. refl; done = λ h. absurd (h refl); tries = λ p _. n p; only = λ h. absurd (h refl) }
 
 -- a number that stands for a place is that place
 pub place-is : (n : ℕ) {p : ℕ} → put n ≡ At p → n ≡ p
 place-is n {p} = put-elim (λ t. t ≡ At p → n ≡ p) n (λ h e. cc) (λ h e. absurd (let z : _≡_ {A = ℕ} 0 1 = cc in omega arith))
 
--- bytes that go over others, and bytes for which there is no room
-pub overwritten : {o o′ bs : List ℕ} (at : ℕ) → o′ ≡ sets o at bs → Overwritten bs (put at) o o′
-overwritten {o} {o′} {bs} at e =
-    record { over = λ p q _ _. e ∙ ap (λ (n : ℕ). sets o n bs) (place-is at q); keeps = ap length e ∙ length-sets o at bs }
+-- ---- bytes that go over others
 
-pub not-overwritten : {o bs : List ℕ} (at : ℕ) {n : ℕ} → length bs ≡ n → length o < at + n → Overwritten bs (put at) o o
-not-overwritten at g h = record { over = λ p q _ l. absurd (omega (arith, g, h, l, place-is at q)); keeps = refl }
+-- what holds of the two outputs holds of the one that is left
+over-elim : (P : List ℕ → Type 0) (bs : Bytes) (p : ℕ) (o : List ℕ) → (p + length bs ≤ length o → P (sets o p bs)) → P o → P (overwritten bs (At p) o)
+unfolding overwritten
+over-elim P bs p o f g = cond-elim P (leb (p + length bs) (length o)) (sets o p bs) o (λ h. f (leb-true (p + length bs) (length o) h)) (λ _. g)
+
+pub over-room : {bs o o′ : List ℕ} {p : ℕ} → Overwritten bs (At p) o o′ → p + length bs ≤ length o → o′ ≡ sets o p bs
+unfolding overwritten
+over-room {bs} {o} {o′} {p} w h = rw (le-leb (p + length bs) (length o) h) at (w .over)
+
+pub over-keeps : {bs o o′ : List ℕ} (t : Put) → Overwritten bs t o o′ → length o′ ≡ length o
+unfolding overwritten
+over-keeps {bs} {o} (At p) w = ap length (w .over) ∙ over-elim (λ z. length z ≡ length o) bs p o (λ _. length-sets o p bs) refl
+over-keeps (Refused m) w = ap length (w .over)
+
+-- what stands before the place is spared
+over-behind : {bs o o′ : List ℕ} (p n : ℕ) → n ≤ p → Overwritten bs (At p) o o′ → take n o′ ≡ take n o
+over-behind {bs} {o} p n h w = ap (take n) (w .over) ∙ over-elim (λ z. take n z ≡ take n o) bs p o (λ _. sets-behind bs o n p h) refl
+
+over-spares : {bs o o′ : List ℕ} (t : Put) → Overwritten bs t o o′ → spared t o′ ≡ spared t o
+unfolding overwritten
+over-spares (At p) w = over-behind p p (omega arith) w
+over-spares (Refused m) w = w .over
+
+pub over-before : {bs o o′ : List ℕ} (p n : ℕ) → n ≤ p → Overwritten bs (put p) o o′ → take n o′ ≡ take n o
+unfolding overwritten
+over-before {bs} {o} {o′} p n h = put-elim (λ t. Overwritten bs t o o′ → take n o′ ≡ take n o) p (λ _. over-behind p n h) (λ _ w. ap (take n) (w .over))
+
+-- the three ways of it: they are stored; there is no room for them; the place is a refusal
+pub over-stored : {o o′ bs : List ℕ} (p : ℕ) {n : ℕ} → p ≤ past → length bs ≡ n → p + n ≤ length o → o′ ≡ sets o p bs → Overwritten bs (put p) o o′
+unfolding overwritten
+over-stored {o} {o′} {bs} p f g h e = rw (put-at p f) (record { over = rw (le-leb (p + length bs) (length o) (omega (arith, g))) e })
+
+pub over-no-room : {o bs : List ℕ} (p : ℕ) {n : ℕ} → p ≤ past → length bs ≡ n → length o < p + n → Overwritten bs (put p) o o
+unfolding overwritten
+over-no-room {o} {bs} p f g h = rw (put-at p f) (record { over = rw (lt-leb (p + length bs) (length o) (omega (arith, g))) })
+
+pub over-refused : {o bs : List ℕ} (p : ℕ) → past < p → Overwritten bs (put p) o o
+unfolding overwritten
+over-refused p h = rw (put-refused p h) (record { over = refl })
 
 -- nothing more is emitted behind a refusal
 pub refused-stays : {x : Answer Bytes} {o : List ℕ} {p : ℕ} → past < p → Emitted x (put p) o (put p) o
-refused-stays {x} {o} {p} h = rw (put-refused p h) (record { moves = refl; lays = tt; keeps = refl })
+refused-stays {x} {o} {p} h = rw (put-refused p h) (record { moves = refl; lays = tt; spares = refl; keeps = refl })
 
 pub refused-now : {o : List ℕ} {p n q : ℕ} → n < 256 → p ≤ past → q ≡ suc past + n → Emitted (refused n) (put p) o (put q) o
 refused-now {o} {p} {n} {q} b h e =
     let k : past < q = omega (arith, e) in
     let m : (q - suc past) % 256 ≡ n = omega (arith, e) in
-    rw (put-at p h, put-refused q k, m) (record { moves = refl; lays = tt; keeps = refl })
+    rw (put-at p h, put-refused q k, m) (record { moves = refl; lays = tt; spares = refl; keeps = refl })
 
 -- Bytes of which only the length was known when y was to be emitted behind them: a stood there, and b went over it afterwards. They
 -- need to be right, as d, only where nothing was refused.
@@ -267,7 +335,8 @@ patched {a} {b} {d} {y} {t} {s} {r} {o} {o₁} {o₂} {o₃} f g h e₁ e₂ w =
     record {
       moves = e .moves ∙ moves y t;
       lays = lays y t (e .keeps) (e .moves) (e .lays) w;
-      keeps = w .keeps ∙ e .keeps;
+      spares = over-spares t w ∙ e .spares;
+      keeps = over-keeps t w ∙ e .keeps;
     }
   where
     moves : (y : Answer Bytes) (t : Put) → moved t (value a ▸ y) ≡ moved t (value d ▸ y)
@@ -280,7 +349,7 @@ patched {a} {b} {d} {y} {t} {s} {r} {o} {o₁} {o₂} {o₃} f g h e₁ e₂ w =
         let n : length (d ++ c) ≡ length d + length c = length-append d c in
         let n₁ : length (a ++ c) ≡ length (d ++ c) = length-append a c ∙ ap (λ n. n + length c) (f ∙ g) ∙ sym n in
         let q : take (p + length (a ++ c)) o₂ ≡ take p o ++ (a ++ c) = k (omega (arith, n₁)) (omega (arith, n₁)) in
-        let v : o₃ ≡ sets o₂ p b = w .over p refl (omega (arith, g, n)) (omega (arith, g, n, l)) in
+        let v : o₃ ≡ sets o₂ p b = over-room w (omega (arith, g, n, l)) in
         ap (take (p + length (d ++ c))) v
         ∙ take-sets b o₂ (p + length (d ++ c)) p (omega (arith, g, n))
         ∙ ap (λ (z : List ℕ). sets z p b) (ap (λ z. take (p + z) o₂) (sym n₁) ∙ q)

@@ -1,8 +1,9 @@
-// Emitters: each writes bytes at a place of the output and replies the place behind them.
+// Emitters: each stores bytes at a place of the output and replies the place behind them.
 //
-// A refusal stays in the place and passes through, so that a row of emitters is a straight line; and
-// where the output has no room an emitter only counts, so that one traversal both measures (over an
-// empty output) and writes. A place and a refusal are one number, since an enum is slow to hand on.
+// A refusal stays in the place and passes through, with the output as it was, so that a row of emitters is a straight line.
+// Bytes that have no room in the output are only counted: over an output of no bytes an emitter measures. Nothing that stands before
+// its place changes, whatever happens. Behind the place that it replies it may store too: the next emitter goes over that.
+// A place and a refusal are one number, since an enum is slow to hand on.
 use records::answer;
 use records::answer::Place;
 use records::answer::PlaceAnswer;
@@ -16,7 +17,7 @@ ghost use Rattle.util.specs.Read.{read, orZero};
 ghost use Rattle.records.specs.Answer.{value, refused};
 ghost use Rattle.records.specs.Record.{partOf};
 ghost use Rattle.description.specs.Format.{leBytes};
-ghost use Rattle.emit.specs.Emit.{Emitted, Overwritten, Tried, countedPart, put, past};
+ghost use Rattle.emit.specs.Emit.{Emitted, Overwritten, Short, Tried, countedPart, put, past};
 
 // No place is past this, one more than the most bytes that a sheet has. A number past it is a refusal: 0 is the next, and so on.
 pub const PAST: usize = 16_777_217;
@@ -205,7 +206,7 @@ pub fn put_part(s: &[u8], place: Place, out: &mut [u8], to: usize) -> usize
 // The byte 1, the length in one byte and the bytes at a place of the library; 0, and nothing done, where they are not short, or there
 // is no room for more than they are. (Most names go this way: it is one row of tests and moves.)
 pub fn put_short_counted(s: &[u8], place: Place, out: &mut [u8], to: usize) -> usize
-    ensures { λ r. ⌜ Tried (countedPart (now (s .entry)) place) to (now (out .entry)) r (now (out .exit)) ⌝ }
+    ensures { λ r. ⌜ Tried (Short (now (s .entry)) place to (now (out .entry))) (countedPart (now (s .entry)) place) to (now (out .entry)) r (now (out .exit)) ⌝ }
 {
     let at = place.at;
     if place.len <= SHORT {
@@ -222,12 +223,14 @@ pub fn put_short_counted(s: &[u8], place: Place, out: &mut [u8], to: usize) -> u
     0
 }
 
-// The lowest `width` bytes of `v` go over what stands at `at`, where there is room for them.
+// The lowest `width` bytes of `v` go over what stands at `at`, where there is room for them; nothing is stored at a refusal.
 pub fn overwrite(out: &mut [u8], at: usize, v: u64, width: usize)
     ensures { λ _. ⌜ Overwritten (leBytes width v) (put at) (now (out .entry)) (now (out .exit)) ⌝ }
 {
-    if has_room(out.len(), at, width) {
-        store_le(out, at, v, width);
+    if at <= PAST {
+        if has_room(out.len(), at, width) {
+            store_le(out, at, v, width);
+        }
     }
 }
 

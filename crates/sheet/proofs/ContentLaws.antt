@@ -7,7 +7,9 @@ use native.Mathlib.Nat.{zero-add, add-zero}
 use native.Mathlib.Omega.{arith}
 use lib.ListN.{length, take, length-append}
 use lib.Seq.{sets, length-take-le}
-use Rattle.util.specs.Read.{read, orZero}
+use lib.Dec.{leb}
+use borrow.Author.Tests.{le-leb, leb-true}
+use Rattle.util.specs.Read.{read, orZero, cond-elim}
 use Rattle.records.specs.Answer.{Answer, value, refused, map}
 use Rattle.records.specs.Record.{limit}
 use Rattle.typelib.specs.declared.TypeLib.{TypeLib}
@@ -22,11 +24,11 @@ use Rattle.describe.specs.Types.{typeOf, typesFrom}
 use Rattle.describe.specs.Describe.{headerOf}
 use Rattle.emit.specs.Emit.{Put}
 use Rattle.emit.specs.Emit.{At, Refused, past, put}
-use Rattle.emit.specs.Emit.{_▸_, advance, moved, Emitted, Overwritten}
-use Rattle.emit.specs.Laws.{put-at, put-refused, place-is, sets-append, sets-append-front, sets-front, take-sets, advance-within, moved-join, skip, known}
+use Rattle.emit.specs.Emit.{_▸_, advance, moved, Emitted, overwritten, Overwritten}
+use Rattle.emit.specs.Laws.{put-at, put-refused, sets-append, sets-append-front, sets-front, take-sets, take-less, advance-within, moved-join, skip, known, over-room, over-keeps, over-before}
 use Rattle.sheet_members.specs.Lists.{layAll, all-laid, Sized, sized, unsized, all-sized}
 use Rattle.sheet_members.specs.Bodies.{bodies, bodies-more}
-use Rattle.sheet.specs.Contents.{sheetEmitted, lenOf, lensOf, Patched, LaidTwo, Twofold}
+use Rattle.sheet.specs.Contents.{sheetEmitted, lenOf, lensOf, distanced, Patched, LaidTwo, sparedTwo, Twofold}
 
 pub header-is : (s : List ℕ) (lib : TypeLib) {g n : ℕ} → g ≡ orZero (read 4 s (0 + 8)) → n ≡ orZero (read 4 s (0 + 56))
     → value (leBytes 4 (orZero (read 4 s (0 + 12))))
@@ -38,31 +40,51 @@ header-is s lib {g} {n} e f = rw (e, f)
 -- ---- a length
 
 pub unpatched : (from end : ℕ) {at : ℕ} {o : List ℕ} → ((p q : ℕ) → put from ≡ At p → put end ≡ At q → p ≤ q → ⊥) → Patched (put from) (put end) at o o
-unpatched from end h = record { puts = λ p q e g k m n. absurd (h p q e g k); keeps = refl }
+unfolding distanced
+unpatched from end {at} {o} h = record { puts = by (put from) (put end) refl refl; keeps = refl }
+  where
+    by : (t u : Put) → put from ≡ t → put end ≡ u → o ≡ distanced t u at o
+    by (At p) (At q) e g = cond-elim (λ z. o ≡ z) (leb p q) (overwritten (leBytes 4 (q - p)) (put at) o) o (λ k. absurd (h p q e g (leb-true p q k))) (λ _. refl)
+    by (At p) (Refused m) e g = refl
+    by (Refused m) u e g = refl
 
 pub past-never : (n : ℕ) {p : ℕ} → past < n → put n ≡ At p → ⊥
 past-never n h e = let q : Refused ((n - suc past) % 256) ≡ At _ = sym (put-refused n h) ∙ e in let z : _≡_ {A = ℕ} 0 1 = cc in omega arith
 
-pub patched : (from end at : ℕ) {o o′ : List ℕ} → Overwritten (leBytes 4 (end - from)) (put at) o o′ → Patched (put from) (put end) at o o′
-patched from end at w =
-    record {
-      puts = λ p q e g k m n.
-          rw (← place-is from e, ← place-is end g)
-          (w .over at (put-at at (omega (arith, m))) (omega (arith, m, length-leBytes 4 (end - from))) (omega (arith, n, length-leBytes 4 (end - from))));
-      keeps = w .keeps;
-    }
+pub patched : (from end at : ℕ) {o o′ : List ℕ} → from ≤ end → end ≤ past → Overwritten (leBytes 4 (end - from)) (put at) o o′ → Patched (put from) (put end) at o o′
+unfolding distanced
+patched from end at h k w =
+    let f : from ≤ past = omega arith in
+    record { puts = rw (put-at from f, put-at end k, le-leb from end h) (w .over); keeps = over-keeps (put at) w }
+
+-- it stands there where there is room
+puts-room : (p q at : ℕ) {o o′ : List ℕ} → Patched (At p) (At q) at o o′ → p ≤ q → at + 4 ≤ limit → at + 4 ≤ length o → o′ ≡ sets o at (leBytes 4 (q - p))
+unfolding distanced
+puts-room p q at {o} {o′} f h k l =
+    let m : at ≤ past = omega arith in
+    let w : Overwritten (leBytes 4 (q - p)) (At at) o o′ = record { over = rw (le-leb p q h, put-at at m) at (f .puts) } in
+    over-room w (omega (arith, l, length-leBytes 4 (q - p)))
+
+-- what stands before it is spared
+patch-spares : (t u : Put) (n c : ℕ) {o o′ : List ℕ} → n ≤ c → Patched t u c o o′ → take n o′ ≡ take n o
+unfolding distanced
+patch-spares (At p) (At q) n c {o} h f =
+    ap (take n) (f .puts)
+    ∙ cond-elim (λ z. take n z ≡ take n o) (leb p q) (overwritten (leBytes 4 (q - p)) (put c) o) o (λ _. over-before c n h (record { over = refl })) (λ _. refl)
+patch-spares (At p) (Refused m) n c h f = ap (take n) (f .puts)
+patch-spares (Refused m) u n c h f = ap (take n) (f .puts)
 
 -- ---- lengths and bodies
 
 two-none : {c : ℕ} {t : Put} {o : List ℕ} → Twofold (value []) (value []) c t o t o
-two-none {c} {t} {o} = record { moves = skip t o .moves; lays = none t; keeps = refl }
+two-none {c} {t} {o} = record { moves = skip t o .moves; lays = none t; spares = refl; keeps = refl }
   where
     none : (t : Put) → LaidTwo (value []) (value []) c t o o
     none (At p) = λ h k l. rw (add-zero p) (sym (append-nil (take p o)))
     none (Refused m) = tt
 
 two-refused : (ls xs : Answer Bytes) {c : ℕ} {t : Put} {o : List ℕ} {m : ℕ} → t ≡ Refused m → Twofold ls xs c t o t o
-two-refused ls xs {c} {t} {o} {m} e = rw e (record { moves = refl; lays = none ls xs; keeps = refl })
+two-refused ls xs {c} {t} {o} {m} e = rw e (record { moves = refl; lays = none ls xs; spares = refl; keeps = refl })
   where
     none : (ls xs : Answer Bytes) → LaidTwo ls xs c (Refused m) o o
     none (value ks) (value bs) = tt
@@ -82,6 +104,13 @@ before b ks o o₁ c p h l e =
     ∙ sets-append-front fs (take p o) b c (omega (arith, n))
     ∙ ap (λ (z : List ℕ). z ++ b) (sym (take-sets fs o p c h))
 
+-- what is spared where a body ends is spared where it began
+spared-later : (x : Answer Bytes) (c p : ℕ) (o o′ : List ℕ) → sparedTwo (c + 4) (moved (At p) x) o′ ≡ sparedTwo (c + 4) (moved (At p) x) o
+    → take (min c p) o′ ≡ take (min c p) o
+unfolding advance
+spared-later (value b) c p o o′ w = take-less (min c p) (min (c + 4) (max p (min (p + length b) past))) o′ o (omega arith) w
+spared-later (refused n) c p o o′ w = ap (take (min c p)) w
+
 module _ {c : ℕ} {u : Put} {o o₁ o₂ : List ℕ} (o₃ : List ℕ) where
   lays : (x ls xs : Answer Bytes) (t : Put) → Emitted x t o u o₁ → Patched t u c o₁ o₂ → LaidTwo ls xs (c + 4) u o₂ o₃ → LaidTwo (lenOf x ▸ ls) (x ▸ xs) c t o o₃
   lays (value b) (value ks) (value bs) (At p) a f w = λ h k l.
@@ -92,7 +121,7 @@ module _ {c : ℕ} {u : Put} {o o₁ o₂ : List ℕ} (o₃ : List ℕ) where
       let q : p + length b - p ≡ length b = omega arith in
       let l₁ : take (p + length b) o₁ ≡ take p o ++ b = a .lays (omega arith) (omega arith) in
       let n₁ : length o₁ ≡ length o = a .keeps in
-      let l₂ : o₂ ≡ sets o₁ c (leBytes 4 (length b)) = rw q at (f .puts p (p + length b) refl e (omega arith) (omega arith) (omega (arith, n₁))) in
+      let l₂ : o₂ ≡ sets o₁ c (leBytes 4 (length b)) = rw q at (puts-room p (p + length b) c (rw e at f) (omega arith) (omega arith) (omega (arith, n₁))) in
       let n₂ : length o₂ ≡ length o₁ = f .keeps in
       let l₃ : take (p + length b + length bs) o₃ ≡ take (p + length b) (sets o₂ (c + 4) ks) ++ bs = (rw e at w) (omega arith) (omega arith) (omega (arith, n₁, n₂)) in
       let r : p + length (b ++ bs) ≡ p + length b + length bs = omega (arith, length-append b bs) in
@@ -106,12 +135,19 @@ module _ {c : ℕ} {u : Put} {o o₁ o₂ : List ℕ} (o₃ : List ℕ) where
   lays (value b) (refused n) xs t a f w = tt
   lays (refused n) ls xs t a f w = tt
 
+  spares : (x : Answer Bytes) (t : Put) → Emitted x t o u o₁ → Patched t u c o₁ o₂ → sparedTwo (c + 4) u o₃ ≡ sparedTwo (c + 4) u o₂ → sparedTwo c t o₃ ≡ sparedTwo c t o
+  unfolding distanced
+  spares x (At p) a f w =
+      spared-later x c p o₂ o₃ (rw (a .moves) at w) ∙ patch-spares (At p) u (min c p) c (omega arith) f ∙ take-less (min c p) p o₁ o (omega arith) (a .spares)
+  spares x (Refused m) a f w = (rw (a .moves) at w) ∙ f .puts ∙ a .spares
+
 two-more : {x ls xs : Answer Bytes} {c : ℕ} {t u r : Put} {o o₁ o₂ o₃ : List ℕ}
     → Emitted x t o u o₁ → Patched t u c o₁ o₂ → Twofold ls xs (c + 4) u o₂ r o₃ → Twofold (lenOf x ▸ ls) (x ▸ xs) c t o r o₃
 two-more {x} {ls} {xs} {c} {t} {u} {r} {o} {o₁} {o₂} {o₃} a b w =
     record {
       moves = w .moves ∙ ap (λ (v : Put). moved v xs) (a .moves) ∙ moved-join x xs t;
       lays = lays o₃ x ls xs t a b (w .lays);
+      spares = spares o₃ x t a b (w .spares);
       keeps = w .keeps ∙ b .keeps ∙ a .keeps;
     }
 
@@ -196,9 +232,10 @@ whole {n} {ls} {xs} {t} {r} {o} {o₁} {o₂} few (both ks bs e) a w =
           ∙ ap (λ (x : ℕ). take x (sets o₁ 4 ks) ++ bs) (sym p)
           ∙ ap (λ (x : List ℕ). x ++ bs) (g ∙ ap (λ (x : List ℕ). x ++ ks) f)
           ∙ append-assoc (leBytes 4 n) ks bs;
+      spares = refl;
       keeps = w .keeps ∙ a .keeps;
     }
-whole few (neither m) a w = record { moves = w .moves; lays = tt; keeps = w .keeps ∙ a .keeps }
+whole few (neither m) a w = record { moves = w .moves; lays = tt; spares = refl; keeps = w .keeps ∙ a .keeps }
 
 -- ---- it is the sheet's layout
 

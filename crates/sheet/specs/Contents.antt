@@ -1,8 +1,10 @@
 -- Contents and bodies. They are written in another order than they are laid out: the length of a body goes into the contents once
 -- the body is written. Assumes nothing.
 use mathlib.Core.Path.{_≡_}
+use mathlib.Core.Bool.{cond}
 use mathlib.Core.List.{List, [], _∷_, _++_}
-use Prim.Native.Nat.{ℕ, _+_, _-_, _≤_}
+use Prim.Native.Nat.{ℕ, _+_, _-_, _≤_, min}
+use lib.Dec.{leb}
 use lib.ListN.{length, take}
 use lib.Seq.{sets}
 use Rattle.records.specs.Answer.{Answer, value, refused, map, bind}
@@ -15,7 +17,7 @@ use Rattle.describe.specs.Call.{within, written}
 use Rattle.describe.specs.Describe.{headerOf, typesOf}
 use Rattle.emit.specs.Emit.{Put}
 use Rattle.emit.specs.Emit.{At, Refused}
-use Rattle.emit.specs.Emit.{_▸_, past, put, moved}
+use Rattle.emit.specs.Emit.{_▸_, past, put, moved, overwritten}
 
 -- the whole sheet of a library
 unfoldable pub sheetEmitted : List ℕ → TypeLib → Answer Bytes
@@ -30,9 +32,14 @@ unfoldable pub lensOf : {A : Type 0} → Format A → List (Answer A) → Answer
 lensOf F [] = value []
 lensOf F (x ∷ xs) = lenOf (map (encode F) x) ▸ lensOf F xs
 
--- the distance of two places was put at `at`
+-- THE OUTPUT WITH THE DISTANCE OF TWO PLACES over what stands at `at`; as it was where one of them is a refusal
+unfoldable pub distanced : Put → Put → ℕ → List ℕ → List ℕ
+distanced (At p) (At q) at o = cond (leb p q) (overwritten (leBytes 4 (q - p)) (put at) o) o
+distanced (At p) (Refused m) at o = o
+distanced (Refused m) end at o = o
+
 pub record Patched (from end : Put) (at : ℕ) (o o′ : List ℕ) : Type 0 where
-  pub puts : (p q : ℕ) → from ≡ At p → end ≡ At q → p ≤ q → at + 4 ≤ limit → at + 4 ≤ length o → o′ ≡ sets o at (leBytes 4 (q - p))
+  pub puts : o′ ≡ distanced from end at o
   pub keeps : length o′ ≡ length o
 
 -- ks were laid from c, and bs from the place; what stands behind bs is left to the emitter
@@ -42,10 +49,16 @@ LaidTwo (value ks) (value bs) c (Refused m) o o′ = Unit {0}
 LaidTwo (value ks) (refused n) c t o o′ = Unit {0}
 LaidTwo (refused n) x c t o o′ = Unit {0}
 
+-- what is left alone, whatever happens: what stands before both; called at a refusal, all of the output
+abbrev pub sparedTwo : ℕ → Put → List ℕ → List ℕ
+sparedTwo c (At p) o = take (min c p) o
+sparedTwo c (Refused m) o = o
+
 -- an emitter of bodies xs from the place t, with their lengths ks from c
 pub record Twofold (ks xs : Answer Bytes) (c : ℕ) (t : Put) (o : List ℕ) (r : Put) (o′ : List ℕ) : Type 0 where
   pub moves : r ≡ moved t xs
   pub lays : LaidTwo ks xs c t o o′
+  pub spares : sparedTwo c t o′ ≡ sparedTwo c t o
   pub keeps : length o′ ≡ length o
 
 -- An emitter that replies r has done P, unless it gave up where its bytes passed the place `most`. Then it replies the last place, so it

@@ -1,22 +1,24 @@
 -- The words behind a type's block, looked up from where they start, are those of `typelib`. Assumes nothing.
 use mathlib.Core.Path.{_≡_, refl, sym, ap, _∙_}
+use mathlib.Core.Bool.{Bool, true, false}
 use mathlib.Core.Option.{some, none}
 use mathlib.Core.List.{List}
-use Prim.Native.Nat.{ℕ, _+_, _*_, _-_, _≤_, _<_}
+use Prim.Native.Nat.{ℕ, _+_, _*_, _-_, _≤_, _<_, min}
 use native.Mathlib.Nat.{add-zero}
 use native.Mathlib.Omega.{arith}
 use lib.ListN.{length, take, drop}
-use borrow.Author.Tests.{le-leb, lt-leb}
+use lib.Dec.{leb}
+use borrow.Author.Tests.{le-leb, lt-leb, leb-true, leb-false}
 use Rattle.util.specs.Read.{read, orZero, mapped, le, read-some, read-none}
 use Rattle.records.specs.declared.answer.Place.{Place}
 use Rattle.records.specs.declared.typeinfo.TypeInfoEntry.{TypeInfoEntry}
 use Rattle.records.specs.Answer.{Answer, value, refused, map, bind, orNine}
 use Rattle.typelib.specs.declared.typeinfos.Counts.{Counts}
 use Rattle.typelib.specs.HeaderLaws.{word-in-part}
-use Rattle.typelib.specs.TypeInfos.{ofTypeInfo, countsOf, blockAt, auxWord, auxIn, memberWord}
+use Rattle.typelib.specs.TypeInfos.{ofTypeInfo, countsOf, blockAt, auxWord, auxIn, memberWord, funcMemid, funcNameOffset}
 use Rattle.records.specs.Record.{signed32}
 use Rattle.describe.specs.Values.{found}
-use Rattle.sheet_members.specs.Words.{blockEnd, wordsAt, wordFrom, Row, FuncRows}
+use Rattle.sheet_members.specs.Words.{blockEnd, wordsAt, rowAt, memberRow, FuncRows}
 use mir.Syntax.{w32}
 use mir.Val.{toZ, ofZ}
 use lib.IntN.{ℤ}
@@ -46,61 +48,61 @@ module _ (s : List ℕ) where
     unfolding blockAt
     block-read size h e = rw (lt-leb 0x80000000 memoffset h, ← e)
 
-  in-block : (k j : ℕ) → k ≡ j → (m : ℕ) → bind (map blockEnd (blockAt s m)) (λ at. orNine (read 4 s (at + 4 * k))) ≡ auxIn s m j
-  unfolding auxIn auxWord
-  in-block k j e m = by (blockAt s m)
-    where
-      by : (b : Answer Place)
-          → bind (map blockEnd b) (λ at. orNine (read 4 s (at + 4 * k))) ≡ bind b (λ block. orNine (read 4 s (block .at + block .len + 4 * j)))
-      by (value b) = rw e
-      by (refused n) = refl
-
-  -- a word of the row that `first` names
-  module _ (ti : TypeInfoEntry) {c : Counts} (first : Counts → ℕ) (e : countsOf s ti ≡ value c) where
-    pub member-is : {start : Answer ℕ} {k r : ℕ} → start ≡ wordsAt s ti → k ≡ first c → Row s start k r
-        → (i : ℕ) → found (orNine (read 4 s (r + 4 * i))) ≡ found (memberWord first s ti i)
-    unfolding wordFrom wordsAt
-    member-is {start} {k} {r} f g row i =
-        row .words i ∙ ap (λ x. found (wordFrom s x (k + i))) f ∙ ap found (by (ofTypeInfo "memoffset" s ti)) ∙ rw e
-      where
-        by : (y : Answer ℕ)
-            → bind (bind y (λ m. map blockEnd (blockAt s m))) (λ at. orNine (read 4 s (at + 4 * (k + i)))) ≡ bind y (λ m. auxIn s m (first c + i))
-        by (refused n) = refl
-        by (value m) = in-block (k + i) (first c + i) (ap (λ n. n + i) g) m
-
   none-behind : (i : ℕ) → found (orNine (read 4 s (length s + 4 * i))) ≡ none
   none-behind i = ap found (sym (word-beyond (length s + 4 * i) (omega arith)))
 
-  -- without the counts there are no words
-  pub no-rows : (ti : TypeInfoEntry) {n : ℕ} → countsOf s ti ≡ refused n → FuncRows s ti (length s) (length s)
-  no-rows ti e =
-      record {
-        memids-inside = omega arith;
-        names-inside = omega arith;
-        memids-are = λ i. none-behind i ∙ rw e;
-        names-are = λ i. none-behind i ∙ rw e;
-      }
+  -- a word of a row is the one so far behind where the row would start: one that is missing there is missing here too
+  row-word : (a : Answer ℕ) (i : ℕ) → found (orNine (read 4 s (rowAt s a + 4 * i))) ≡ found (bind a (λ at. orNine (read 4 s (at + 4 * i))))
+  row-word (value at) i = by (leb at (length s)) refl
+    where
+      by : (b : Bool) → leb at (length s) ≡ b → found (orNine (read 4 s (min at (length s) + 4 * i))) ≡ found (orNine (read 4 s (at + 4 * i)))
+      by true h = let e : min at (length s) ≡ at = omega (arith, leb-true at (length s) h) in rw e
+      by false h =
+          let k : length s < at = leb-false at (length s) h in
+          let e : min at (length s) ≡ length s = omega arith in
+          rw e (none-behind i ∙ ap found (word-beyond (at + 4 * i) (omega arith)))
+  row-word (refused n) i = none-behind i
 
-  pub row-missing : {start : Answer ℕ} {n first : ℕ} → start ≡ refused n → Row s start first (length s)
-  unfolding wordFrom
-  row-missing e = record { inside = omega arith; words = λ i. none-behind i ∙ rw e }
+  in-block : (k i m : ℕ) → bind (map (λ at. at + 4 * k) (map blockEnd (blockAt s m))) (λ at. orNine (read 4 s (at + 4 * i))) ≡ auxIn s m (k + i)
+  unfolding auxIn auxWord
+  in-block k i m = by (blockAt s m)
+    where
+      by : (b : Answer Place)
+          → bind (map (λ at. at + 4 * k) (map blockEnd b)) (λ at. orNine (read 4 s (at + 4 * i))) ≡ bind b (λ block. orNine (read 4 s (block .at + block .len + 4 * (k + i))))
+      by (value b) = ap (λ at. orNine (read 4 s at)) (omega arith)
+      by (refused n) = refl
 
-  -- a row that starts past the end
-  pub row-beyond : (at first : ℕ) → length s < at + 4 * first → Row s (value at) first (length s)
-  unfolding wordFrom
-  row-beyond at first h =
-      record {
-        inside = omega arith;
-        words = λ i. none-behind i ∙ ap found (word-beyond (at + 4 * (first + i)) (omega arith));
-      }
+  module _ (first : Counts → ℕ) (ti : TypeInfoEntry) where
+    -- the words of the row that `first` names are the members'
+    member-words : (i : ℕ) → found (orNine (read 4 s (memberRow first s ti + 4 * i))) ≡ found (memberWord first s ti i)
+    unfolding memberRow wordsAt
+    member-words i =
+        row-word (bind (countsOf s ti) (λ c. map (λ at. at + 4 * first c) (wordsAt s ti))) i ∙ ap found (by (countsOf s ti) (ofTypeInfo "memoffset" s ti))
+      where
+        by : (y : Answer Counts) (m : Answer ℕ)
+            → bind (bind y (λ c. map (λ at. at + 4 * first c) (bind m (λ x. map blockEnd (blockAt s x))))) (λ at. orNine (read 4 s (at + 4 * i)))
+            ≡ bind y (λ c. bind m (λ x. auxIn s x (first c + i)))
+        by (value c) (value x) = in-block (first c) i x
+        by (value c) (refused n) = refl
+        by (refused n) m = refl
 
-  pub row-there : (at first : ℕ) → at + 4 * first ≤ length s → Row s (value at) first (at + 4 * first)
-  unfolding wordFrom
-  row-there at first h =
-      record {
-        inside = h;
-        words = λ i. ap (λ k. found (orNine (read 4 s k))) (omega arith);
-      }
+    -- it starts where the code finds it
+    pub row-found : {c : Counts} {start : Answer ℕ} {k r : ℕ} → countsOf s ti ≡ value c → start ≡ wordsAt s ti → k ≡ first c
+        → r ≡ rowAt s (map (λ at. at + 4 * k) start) → r ≡ memberRow first s ti
+    unfolding memberRow
+    row-found e f g h = h ∙ rw (e, f, g)
+
+    -- without the counts there are no words
+    pub row-missing : {n : ℕ} → countsOf s ti ≡ refused n → length s ≡ memberRow first s ti
+    unfolding memberRow
+    row-missing e = rw e
+
+  module _ (ti : TypeInfoEntry) {memids names : ℕ} (rows : FuncRows s ti memids names) where
+    pub memids-are : (i : ℕ) → found (orNine (read 4 s (memids + 4 * i))) ≡ found (funcMemid s ti i)
+    memids-are i = rw (rows .memids-at) (member-words (λ c. 0) ti i)
+
+    pub names-are : (i : ℕ) → found (orNine (read 4 s (names + 4 * i))) ≡ found (funcNameOffset s ti i)
+    names-are i = rw (rows .names-at) (member-words (λ c. c .funcs + c .vars) ti i)
 
 -- a word that is the same where it is there, or missing too, is so as a signed one
 pub found-signed : (x y : Answer ℕ) → found x ≡ found y → found (signed32 x) ≡ found (signed32 y)

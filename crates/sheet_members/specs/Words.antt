@@ -2,18 +2,18 @@
 use mathlib.Core.Bool.{Bool}
 use mathlib.Core.List.{List, _++_}
 use mathlib.Core.Path.{_≡_}
-use Prim.Native.Nat.{ℕ, _+_, _*_, _≤_}
+use Prim.Native.Nat.{ℕ, _+_, _*_, min}
 use lib.ListN.{length}
-use Rattle.util.specs.Read.{read}
 use Rattle.records.specs.declared.answer.Place.{Place}
 use Rattle.records.specs.declared.typeinfo.TypeInfoEntry.{TypeInfoEntry}
-use Rattle.records.specs.Answer.{Answer, map, bind, orNine}
+use Rattle.records.specs.Answer.{Answer, value, refused, map, bind}
 use Rattle.records.specs.Layout.{funcRecord}
-use Rattle.typelib.specs.TypeInfos.{ofTypeInfo, countsOf, blockAt, funcMemid, funcNameOffset}
+use Rattle.typelib.specs.declared.typeinfos.Counts.{Counts}
+use Rattle.typelib.specs.TypeInfos.{ofTypeInfo, countsOf, blockAt}
 use Rattle.description.specs.Format.{encode}
 use Rattle.description.specs.Description.{Bytes, VariableValue}
 use Rattle.description.specs.Sheet.{u16, u32, variableValue}
-use Rattle.describe.specs.Values.{fieldOf, found}
+use Rattle.describe.specs.Values.{fieldOf}
 
 -- "u32 0x08, u16 0x0C, u32 0x10, u16 0x14, 0x16"
 unfoldable pub functionWords : List ℕ → ℕ → Bytes
@@ -35,17 +35,16 @@ blockEnd block = block .at + block .len
 unfoldable pub wordsAt : List ℕ → TypeInfoEntry → Answer ℕ
 wordsAt s ti = bind (ofTypeInfo "memoffset" s ti) (λ memoffset. map blockEnd (blockAt s memoffset))
 
-unfoldable pub wordFrom : List ℕ → Answer ℕ → ℕ → Answer ℕ
-wordFrom s start k = bind start (λ at. orNine (read 4 s (at + 4 * k)))
+-- WHERE A ROW OF THEM STARTS; one that is not there starts at the library's end, where no word is
+abbrev pub rowAt : List ℕ → Answer ℕ → ℕ
+rowAt s (value at) = min at (length s)
+rowAt s (refused n) = length s
 
--- at r, inside the library, start the words from `first` on: one that is missing is missing there too
-pub record Row (s : List ℕ) (start : Answer ℕ) (first r : ℕ) : Type 0 where
-  pub inside : r ≤ length s
-  pub words : (i : ℕ) → found (orNine (read 4 s (r + 4 * i))) ≡ found (wordFrom s start (first + i))
+-- the row of a type's members from the word on that `first` names
+unfoldable pub memberRow : (Counts → ℕ) → List ℕ → TypeInfoEntry → ℕ
+memberRow first s ti = rowAt s (bind (countsOf s ti) (λ c. map (λ at. at + 4 * first c) (wordsAt s ti)))
 
 -- the rows of a type's functions
 pub record FuncRows (s : List ℕ) (ti : TypeInfoEntry) (memids names : ℕ) : Type 0 where
-  pub memids-inside : memids ≤ length s
-  pub names-inside : names ≤ length s
-  pub memids-are : (i : ℕ) → found (orNine (read 4 s (memids + 4 * i))) ≡ found (funcMemid s ti i)
-  pub names-are : (i : ℕ) → found (orNine (read 4 s (names + 4 * i))) ≡ found (funcNameOffset s ti i)
+  pub memids-at : memids ≡ memberRow (λ c. 0) s ti
+  pub names-at : names ≡ memberRow (λ c. c .funcs + c .vars) s ti

@@ -9,13 +9,14 @@ use typelib::typeinfos;
 use typelib::typeinfos::CountsAnswer;
 use util::NEGATIVE;
 ghost use mathlib.Core.Path.{_≡_};
-ghost use Prim.Native.Nat.{_+_, _*_};
+ghost use Prim.Native.Nat.{_+_, _*_, min};
+ghost use lib.ListN.{length};
 ghost use Rattle.util.specs.Read.{read};
-ghost use Rattle.records.specs.Answer.{value, orNine, map};
+ghost use Rattle.records.specs.Answer.{orNine, map};
 ghost use Rattle.records.specs.Record.{signed32};
 ghost use Rattle.records.specs.Told.{toldI32, toldUsize};
 ghost use Rattle.typelib.specs.TypeInfos.{blockAt};
-ghost use Rattle.sheet_members.specs.Words.{blockEnd, wordsAt, FuncRows, Row};
+ghost use Rattle.sheet_members.specs.Words.{blockEnd, wordsAt, rowAt, FuncRows};
 
 // Where the rows of a type's functions start: the identifiers, and the offsets of the names. (A row that is not there starts at the
 // end of the library, where no word is.)
@@ -65,7 +66,7 @@ fn words_behind(s: &[u8], memoffset: u32) -> UsizeAnswer
 
 // The row that starts with word `first` of those from `start` on.
 fn row(s: &[u8], start: UsizeAnswer, first: u32) -> usize
-    ensures { λ r. ⌜ Row (now (s .entry)) (toldUsize start) first r ⌝ }
+    ensures { λ r. ⌜ r ≡ rowAt (now (s .entry)) (map (λ at. at + 4 * first) (toldUsize start)) ⌝ }
 {
     match start {
         UsizeAnswer::Value(at) => row_from(s, at, first),
@@ -73,8 +74,9 @@ fn row(s: &[u8], start: UsizeAnswer, first: u32) -> usize
     }
 }
 
+// The row is at word `first` from `at` on, or at the end of the library if that comes before.
 fn row_from(s: &[u8], at: usize, first: u32) -> usize
-    ensures { λ r. ⌜ Row (now (s .entry)) (value at) first r ⌝ }
+    ensures { λ r. ⌜ r ≡ min (at + 4 * first) (length (now (s .entry))) ⌝ }
 {
     let len = s.len();
     if len < at {

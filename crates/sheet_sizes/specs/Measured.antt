@@ -20,7 +20,7 @@ Counted n to r = (bs : Bytes) → length bs ≡ n → Measured (value bs) to r
 
 -- the place is all: there is nothing to lay in such an output
 pub measured : {x : Answer Bytes} {t r : Put} → r ≡ moved t x → Emitted x t [] r []
-measured {x} {t} {r} e = record { moves = e; lays = lays x t; keeps = refl }
+measured {x} {t} {r} e = record { moves = e; lays = lays x t; spares = refl; keeps = refl }
   where
     lays : (x : Answer Bytes) (t : Put) → Laid t x [] []
     lays (value []) (At p) = λ h k. take-nil (p + 0) ∙ sym (append-nil (take p []) ∙ take-nil p)

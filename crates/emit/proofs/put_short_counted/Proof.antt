@@ -1,4 +1,4 @@
-use Rattle.emit.specs.Laws.{counted-stored, not-tried}
+use Rattle.emit.specs.Laws.{counted-stored, no-room, not-tried}
 use mathlib.Core.Path.{refl, sym, ap, _∙_}
 use lib.Seq.{length-sets}
 use lib.ListN.{length, length-take, length-drop}
@@ -61,19 +61,19 @@ same-length : tie.Need-same-length
 same-length c = search needs
 
 returns : tie.Need-returns
-returns c = counted-stored (c .before .before .before .before .before .before .before .before .before .before .before .before .before .before .before .before .before .before .before .args .s .now) (c .before .before .before .before .before .before .before .before .before .before .before .before .before .before .before .before .before .before .before .args .place) 32 (c .before .before .before .before .before .before .before .before .before .before .before .before .before .before .before .before .before .before .before .args .to) (c .before .before .before .before .before .before .before .before .before .before .before .before .before .before .before .if1 .taken) (omega arith) (omega arith) (leb-true _ _ (sym (c .before .before .before .before .before .before .before .before .before .before .before .before .before .has-room .ensures) ∙ c .before .before .before .before .before .before .before .before .before .before .before .before .if3 .taken)) (leb-true _ _ (sym (c .before .before .before .before .before .before .before .before .before .before .before .has-room2 .ensures) ∙ c .before .before .before .before .before .before .before .before .before .before .if4 .taken)) (c .before .before .before .before .before .before .before .before .store-le .ensures) (c .before .before .before .store .ensures) refl
+returns c = counted-stored (c .before .before .before .before .before .before .before .before .before .before .before .before .before .before .before .before .before .before .before .args .s .now) (c .before .before .before .before .before .before .before .before .before .before .before .before .before .before .before .before .before .before .before .args .place) (c .before .before .before .before .before .before .before .before .before .before .before .before .before .before .before .before .before .before .before .args .to) (record { few = c .before .before .before .before .before .before .before .before .before .before .before .before .before .before .before .if1 .taken; within = omega arith; inside = leb-true _ _ (sym (c .before .before .before .before .before .before .before .before .before .before .before .before .before .has-room .ensures) ∙ c .before .before .before .before .before .before .before .before .before .before .before .before .if3 .taken); room = leb-true _ _ (sym (c .before .before .before .before .before .before .before .before .before .before .before .has-room2 .ensures) ∙ c .before .before .before .before .before .before .before .before .before .before .if4 .taken) }) (c .before .before .before .before .before .before .before .before .store-le .ensures) (c .before .before .before .store .ensures) refl
 
 returns-2 : tie.Need-returns-2
-returns-2 c = not-tried
+returns-2 c = not-tried (λ h. no-room _ _ (sym (c .before .has-room2 .ensures) ∙ c .if4 .left) (h .room))
 
 returns-3 : tie.Need-returns-3
-returns-3 c = not-tried
+returns-3 c = not-tried (λ h. no-room _ _ (sym (c .before .has-room .ensures) ∙ c .if3 .left) (h .inside))
 
 returns-4 : tie.Need-returns-4
-returns-4 c = not-tried
+returns-4 c = not-tried (λ h. omega arith)
 
 returns-5 : tie.Need-returns-5
-returns-5 c = not-tried
+returns-5 c = not-tried (λ h. omega arith)
 
 pub put-short-counted-spec : {M : Type 1} → statement M
 put-short-counted-spec =

@@ -15,7 +15,7 @@ same-length : tie.Need-same-length
 same-length c = search needs
 
 returns-2 : tie.Need-returns-2
-returns-2 c = patched _ _ _ (c .before .before .overwrite .ensures)
+returns-2 c = patched _ _ _ (omega arith) (omega arith) (c .before .before .overwrite .ensures)
 
 returns-3 : tie.Need-returns-3
 returns-3 c = unpatched _ _ (λ p q e f g. omega (arith, place-is (c .before .before .before .args .from) e, place-is (c .before .before .before .args .end) f, g, c .if2 .left))

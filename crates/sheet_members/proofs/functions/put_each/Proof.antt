@@ -12,7 +12,7 @@ use Rattle.cursors.specs.declared.iterators.FuncCursor.{FuncCursor}
 use Rattle.records.specs.AnswerLaws.{tells}
 use lib.ListN.{length}
 use mathlib.Core.Path.{_≡_, ap, _∙_}
-use Rattle.sheet_members.proofs.WordLaws.{found-signed}
+use Rattle.sheet_members.proofs.WordLaws.{found-signed, memids-are, names-are}
 use Rattle.describe.specs.Values.{found}
 use Prim.Native.Nat.{_+_, _*_, _^_, _<_}
 use native.Mathlib.Omega.{arith}
@@ -65,7 +65,7 @@ word-requires-2 : tie.Need-word-requires-2 Inv-loop μ-loop
 word-requires-2 c κs = search needs
 
 put-function-requires : tie.Need-put-function-requires Inv-loop μ-loop
-put-function-requires c κs = let s = c .before .before .before .before .before .before .before .before .before .before .before .before .before .args .s .now in let ti = c .before .before .before .before .before .before .before .before .before .before .before .before .before .args .ti in let i = c .before .before .before .before .before .before .before .before .loop .i in let r = c .before .before .before .before .before .before .before .before .before .before .func-rows .result in (c .before .before .before .before .before .before .before .before .before .names-of .ensures, (ap found (c .before .before .word .ensures) ∙ found-signed (orNine (read 4 s (r .memids + 4 * i))) (funcMemid s ti i) (c .before .before .before .before .before .before .before .before .before .before .func-rows .ensures .memids-are i), ap found (c .before .word2 .ensures) ∙ found-signed (orNine (read 4 s (r .names + 4 * i))) (funcNameOffset s ti i) (c .before .before .before .before .before .before .before .before .before .before .func-rows .ensures .names-are i)))
+put-function-requires c κs = let s = c .before .before .before .before .before .before .before .before .before .before .before .before .before .args .s .now in let ti = c .before .before .before .before .before .before .before .before .before .before .before .before .before .args .ti in let i = c .before .before .before .before .before .before .before .before .loop .i in let r = c .before .before .before .before .before .before .before .before .before .before .func-rows .result in (c .before .before .before .before .before .before .before .before .before .names-of .ensures, (ap found (c .before .before .word .ensures) ∙ found-signed (orNine (read 4 s (r .memids + 4 * i))) (funcMemid s ti i) (memids-are s ti (c .before .before .before .before .before .before .before .before .before .before .func-rows .ensures) i), ap found (c .before .word2 .ensures) ∙ found-signed (orNine (read 4 s (r .names + 4 * i))) (funcNameOffset s ti i) (names-are s ti (c .before .before .before .before .before .before .before .before .before .before .func-rows .ensures) i)))
 
 add-i : tie.Need-add-i Inv-loop μ-loop
 add-i c = let e = tells toldFuncStep (c .before .before .before .before .before .before .before .func .given .1) (c .before .before .before .before .before .before .before .before .before .step .ensures) in let l = func-yielded _ _ _ _ e .lessens in omega (arith, c .before .before .before .before .before .before .before .before .before .before .before .loop .inv .1, c .before .before .before .before .before .before .before .before .before .before .before .loop .inv .2, l .some)

@@ -3,7 +3,7 @@ use Prim.Native.Nat.{_+_}
 use Rattle.records.specs.AnswerLaws.{tells}
 use Rattle.typelib.specs.declared.typeinfos.Counts.{Counts}
 use Rattle.typelib.specs.Told.{toldCounts}
-use Rattle.sheet_members.proofs.WordLaws.{member-is, no-rows}
+use Rattle.sheet_members.proofs.WordLaws.{row-found, row-missing}
 use borrow.Author.Needs.{needs}
 use Rattle.sheet_members.proofs.words.func_rows.Statement.{statement}
 use Rattle.sheet_members.proofs.words.func_rows.Tie as tie
@@ -36,10 +36,10 @@ enum-told : tie.Need-enum-told
 enum-told c = search needs
 
 returns : tie.Need-returns
-returns c = let e = sym (tells toldCounts (c .before .before .before .before .before .before .c .given .1) (c .before .before .before .before .before .before .before .before .declared-counts .ensures)) in record { memids-inside = c .before .before .before .row .ensures .inside; names-inside = c .row2 .ensures .inside; memids-are = member-is _ _ (λ (x : Counts). 0) e (c .before .before .before .before .words-at .ensures) refl (c .before .before .before .row .ensures); names-are = member-is _ _ (λ (x : Counts). x .funcs + x .vars) e (c .before .before .before .before .words-at .ensures) refl (c .row2 .ensures) }
+returns c = let e = sym (tells toldCounts (c .before .before .before .before .before .before .c .given .1) (c .before .before .before .before .before .before .before .before .declared-counts .ensures)) in record { memids-at = row-found _ (λ (x : Counts). 0) _ e (c .before .before .before .before .words-at .ensures) refl (c .before .before .before .row .ensures); names-at = row-found _ (λ (x : Counts). x .funcs + x .vars) _ e (c .before .before .before .before .words-at .ensures) refl (c .row2 .ensures) }
 
 returns-2 : tie.Need-returns-2
-returns-2 c = no-rows _ _ (sym (tells toldCounts (c .enum-told .given .1) (c .before .before .declared-counts .ensures)))
+returns-2 c = let e = sym (tells toldCounts (c .enum-told .given .1) (c .before .before .declared-counts .ensures)) in record { memids-at = row-missing _ _ _ e; names-at = row-missing _ _ _ e }
 
 pub func-rows-spec : {M : Type 1} → statement M
 func-rows-spec =

@@ -1,6 +1,3 @@
-use mathlib.Core.Path.{ap}
-use Rattle.records.specs.Told.{toldUsize}
-use Rattle.sheet_members.proofs.WordLaws.{row-missing}
 use borrow.Author.Needs.{needs}
 use Rattle.sheet_members.proofs.words.row.Statement.{statement}
 use Rattle.sheet_members.proofs.words.row.Tie as tie
@@ -18,7 +15,7 @@ returns : tie.Need-returns
 returns c = rw (c .before .before .start .given .1) (c .row-from .ensures)
 
 returns-2 : tie.Need-returns-2
-returns-2 c = row-missing _ (ap toldUsize (c .enum-told .given .1))
+returns-2 c = rw (c .enum-told .given .1)
 
 pub row-spec : {M : Type 1} → statement M
 row-spec = tie.close (tie.spec enum-known-start row-from-requires enum-told returns returns-2)

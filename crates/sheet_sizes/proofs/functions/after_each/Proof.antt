@@ -19,7 +19,7 @@ use Rattle.emit.specs.Emit.{put}
 use Rattle.emit.specs.Laws.{Left, left-all, left-less, left-none, refused-stays}
 use Rattle.sheet_members.specs.Lists.{layAll, laid-more, laid-none}
 use Rattle.sheet_members.specs.Words.{FuncRows}
-use Rattle.sheet_members.proofs.WordLaws.{found-signed}
+use Rattle.sheet_members.proofs.WordLaws.{found-signed, memids-are, names-are}
 use Rattle.sheet_sizes.proofs.functions.after_each.Statement.{statement}
 use Rattle.sheet_sizes.proofs.functions.after_each.Tie as tie
 
@@ -69,7 +69,7 @@ loop-less : tie.Need-loop-less Inv-loop μ-loop
 loop-less c = let e = tells toldFuncStep (c .before .before .before .before .func .given .1) (c .before .before .before .before .before .before .step .ensures) in let l = func-yielded _ _ _ _ e .lessens in omega (arith, l .some, l .fewer)
 
 loop-again : tie.Need-loop-again Inv-loop μ-loop
-loop-again c = let e = tells toldFuncStep (c .before .before .before .before .func .given .1) (c .before .before .before .before .before .before .step .ensures) in let l = func-yielded _ _ _ _ e .lessens in let s = c .before .before .before .before .before .before .before .before .before .before .before .before .args .s .now in let i = c .before .before .before .before .before .before .before .before .loop .i in let r = c .before .before .before .before .before .before .before .before .before .before .func-rows .result in (λ ti k. left-less (c .before .before .before .before .before .before .before .before .loop .inv .0 ti k) (c .after-function .ensures ti i (ap found (c .before .before .word .ensures) ∙ found-signed (orNine (read 4 s (r .memids + 4 * i))) (funcMemid s ti i) (k .memids-are i)) (ap found (c .before .word2 .ensures) ∙ found-signed (orNine (read 4 s (r .names + 4 * i))) (funcNameOffset s ti i) (k .names-are i))) (laid-more (funcStep s) (λ (x : FuncCursor). x .remaining) _ _ _ l e), omega (arith, c .before .before .before .before .before .before .before .before .loop .inv .1, l .some, l .fewer), c .before .before .before .before .before .before .before .before .loop .inv .2)
+loop-again c = let e = tells toldFuncStep (c .before .before .before .before .func .given .1) (c .before .before .before .before .before .before .step .ensures) in let l = func-yielded _ _ _ _ e .lessens in let s = c .before .before .before .before .before .before .before .before .before .before .before .before .args .s .now in let i = c .before .before .before .before .before .before .before .before .loop .i in let r = c .before .before .before .before .before .before .before .before .before .before .func-rows .result in (λ ti k. left-less (c .before .before .before .before .before .before .before .before .loop .inv .0 ti k) (c .after-function .ensures ti i (ap found (c .before .before .word .ensures) ∙ found-signed (orNine (read 4 s (r .memids + 4 * i))) (funcMemid s ti i) (memids-are s ti k i)) (ap found (c .before .word2 .ensures) ∙ found-signed (orNine (read 4 s (r .names + 4 * i))) (funcNameOffset s ti i) (names-are s ti k i))) (laid-more (funcStep s) (λ (x : FuncCursor). x .remaining) _ _ _ l e), omega (arith, c .before .before .before .before .before .before .before .before .loop .inv .1, l .some, l .fewer), c .before .before .before .before .before .before .before .before .loop .inv .2)
 
 pub after-each-spec : {M : Type 1} → statement M
 after-each-spec =
