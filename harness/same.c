@@ -125,7 +125,7 @@ static void print_parting(const side *a, const side *b)
         put_entry(&c, at);
     else
         put(&c, "a body");
-    printf("different\nsheets part at byte %zu, in %s: ", at, c.text);
+    printf("different descriptions\nsheets part at byte %zu, in %s: ", at, c.text);
     print_bytes(one, two, at);
     print_body(a, b);
 }
@@ -141,7 +141,7 @@ static int compare(side *a, side *b)
     if (need_sheet(&a->lib, &a->sheet) != DONE || need_sheet(&b->lib, &b->sheet) != DONE)
         return TROUBLE;
     if (equal(&a->sheet, &b->sheet)) {
-        puts("same");
+        puts("same description");
         return DONE;
     }
     print_parting(a, b);

@@ -70,7 +70,7 @@ static inline const char *msft_refusal_word(int64_t reply)
 
 /* ---- the sheet (its call needs some 150 KB of stack) ---- */
 
-/* The library's sheet. Writes it whole; -6 to -13. */
+/* The library's sheet. Writes it whole; -6 to -8, -10 to -13. */
 int64_t msft_sheet(const uint8_t *lib, size_t lib_len, uint8_t *out, size_t out_len);
 
 /* ---- guid: a GUID, by its place ---- */

@@ -1,5 +1,5 @@
--- The bytes of the parts that a record's numbers name, as the emitters write them; `Laws` proves that they are those of the formats
--- of `description`. Assumes nothing.
+-- The bytes of the parts that a record's numbers name, as the emitters write them. `PartLaws` and `TreeLaws` (of proofs/) prove that
+-- they are those of the formats of `description`. Assumes nothing.
 use mathlib.Core.Path.{_≡_}
 use mathlib.Core.Bool.{Bool, cond}
 use mathlib.Core.Option.{Option, some, none}

@@ -14,7 +14,9 @@ use Rattle.typelib.specs.declared.TypeLib.{TypeLib}
 use Rattle.typelib.specs.Header.{headerField}
 use Rattle.typelib.specs.Tables.{lent, segmentOf, tablePlace}
 
--- MSFT_NameIntro, before a name; of the third word "only lower 8 bits are valid" as the name's length
+-- MSFT_NameIntro, before a name. Wine has three words: `hreftype`, `next_hash` and `namelen`, of which "only lower 8 bits are valid"
+-- as the length; it names flags in the 8 bits above these. That `flags` is a byte, and `hashcode` the upper half of the word, is the
+-- Rust's (name.rs).
 abbrev pub nameIntro : Layout
 nameIntro = ("hreftype" of 4) ∷ ("next_hash" of 4) ∷ ("namelen" of 1) ∷ ("flags" of 1) ∷ ("hashcode" of 2) ∷ []
 

@@ -143,9 +143,7 @@ fn wanted(export: &Export, mut named: BTreeSet<u8>) -> BTreeSet<u8> {
         named.extend(NO_LIBRARY);
     }
     // A call parses first, and what can be parsed has a whole header: a field of it is never missing.
-    // "-6 to -13" of the sheet has 9 in it, which document 01 gives no sheet: what is not there is
-    // told in its bytes.
-    if matches!(export.call, Call::Lib(_)) || export.name == "msft_sheet" {
+    if matches!(export.call, Call::Lib(_)) {
         named.remove(&NOTHING);
     }
     named
