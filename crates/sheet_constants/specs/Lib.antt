@@ -2,3 +2,4 @@
 pub mod Told
 pub mod Bytes
 pub mod Laws
+pub mod Emitted

@@ -9,13 +9,15 @@ use typelib::Numbers;
 ghost use mathlib.Core.Path.{_≡_};
 ghost use Rattle.records.specs.Answer.{value};
 ghost use Rattle.records.specs.Told.{toldPlace};
-ghost use Rattle.description.specs.Format.{encode, opt};
+ghost use Rattle.description.specs.Format.{encode};
 ghost use Rattle.description.specs.Description.{shapeOf};
 ghost use Rattle.description.specs.Sheet.{constant};
-ghost use Rattle.describe.specs.Constants.{contentOf, numberIn, placeIn, constantFrom, constantOf};
-ghost use Rattle.emit.specs.Emit.{Emitted, put};
+ghost use Rattle.describe.specs.Constants.{contentOf, numberIn, placeIn, constantFrom};
 ghost use Rattle.sheet_constants.specs.Told.{toldContent, toldShape};
 ghost use Rattle.sheet_constants.specs.Bytes.{markOf, textBytes, valueBytes};
+ghost use Rattle.emit.specs.Emit.{Emits};
+ghost use Rattle.sheet_constants.specs.Emitted.{constantEmitted};
+ghost use Rattle.typelib.specs.Header.{library};
 
 mod bits;
 

@@ -1,4 +1,5 @@
 -- A member's emissions, one behind the other, are those of its format. Assumes nothing.
+use Rattle.typelib.specs.Header.{typeCount}
 use mathlib.Core.Path.{_≡_, refl, sym, ap, _∙_}
 use mathlib.Core.Bool.{Bool, true, false}
 use mathlib.Core.List.{List, [], _∷_, _++_, append-assoc}
@@ -103,13 +104,13 @@ module _ (s : List ℕ) (lib : TypeLib) where
   -- ---- members
 
   abbrev bytesOfTree : Answer Tree → Answer Bytes
-  bytesOfTree = map (encode (tree edition-one (lib .count)))
+  bytesOfTree = map (encode (tree edition-one (typeCount lib)))
 
   pub parameter-is : (f : FuncRecord) (i : ℕ) (p : Place) {field offset flags : ℕ}
       → field ≡ orZero (read 4 s (p .at + 0)) → offset ≡ orZero (read 4 s (p .at + 4)) → flags ≡ orZero (read 4 s (p .at + 8))
       → bytesOfTree (treeOf s lib field)
       ▸ (value (encode (opt name) (nameOf s lib offset)) ▸ value (leBytes 4 flags ++ encode (opt constant) (defaultOf s lib flags (defaultValueOffset i s (f .at) (f .len)))))
-      ≡ map (encode (parameter edition-one (lib .count))) (parameterOf s lib f i p)
+      ≡ map (encode (parameter edition-one (typeCount lib))) (parameterOf s lib f i p)
   unfolding parameterOf parameter
   parameter-is f i p {field} {offset} {flags} e g h = rw (e, g, h) (by (treeOf s lib (orZero (read 4 s (p .at + 0)))))
     where
@@ -118,7 +119,7 @@ module _ (s : List ℕ) (lib : TypeLib) where
           ▸ (value (encode (opt name) (nameOf s lib (orZero (read 4 s (p .at + 4)))))
           ▸ value (leBytes 4 (orZero (read 4 s (p .at + 8)))
           ++ encode (opt constant) (defaultOf s lib (orZero (read 4 s (p .at + 8))) (defaultValueOffset i s (f .at) (f .len)))))
-          ≡ map (encode (parameter edition-one (lib .count))) (map (parameterWith s lib f i (p .at)) t)
+          ≡ map (encode (parameter edition-one (typeCount lib))) (map (parameterWith s lib f i (p .at)) t)
       by (value t) = refl
       by (refused n) = refl
 
@@ -128,8 +129,8 @@ module _ (s : List ℕ) (lib : TypeLib) where
       ▸ (value (encode (opt name) (nameBy s lib o))
       ▸ (bytesOfTree (treeOf s lib field)
       ▸ (value (functionWords s (p .at))
-      ▸ map (encode (list u16 (parameter edition-one (lib .count)))) (all (parametersOf s lib (record { at = p .at; len = p .len }))))))
-      ≡ map (encode (function edition-one (lib .count))) (functionOf s lib ti i p)
+      ▸ map (encode (list u16 (parameter edition-one (typeCount lib)))) (all (parametersOf s lib (record { at = p .at; len = p .len }))))))
+      ≡ map (encode (function edition-one (typeCount lib))) (functionOf s lib ti i p)
   unfolding functionOf function functionWords
   function-is ti i p {field} m o e g h =
       rw (memid-same m (signed32 (funcMemid s ti i)) e, name-same s lib o (signed32 (funcNameOffset s ti i)) g, h) (by (treeOf s lib (orZero (read 4 s (p .at + 4)))) (all (parametersOf s lib (record { at = p .at; len = p .len }))))
@@ -137,10 +138,10 @@ module _ (s : List ℕ) (lib : TypeLib) where
       by : (t : Answer Tree) (ps : Answer (List Parameter))
           → value (encode (opt u32) (memidBy (signed32 (funcMemid s ti i))))
           ▸ (value (encode (opt name) (nameBy s lib (signed32 (funcNameOffset s ti i))))
-          ▸ (bytesOfTree t ▸ (value (functionWords s (p .at)) ▸ map (encode (list u16 (parameter edition-one (lib .count)))) ps)))
-          ≡ map (encode (function edition-one (lib .count))) (bind t (λ datatype. map (functionWith s lib ti i (p .at) datatype) ps))
+          ▸ (bytesOfTree t ▸ (value (functionWords s (p .at)) ▸ map (encode (list u16 (parameter edition-one (typeCount lib)))) ps)))
+          ≡ map (encode (function edition-one (typeCount lib))) (bind t (λ datatype. map (functionWith s lib ti i (p .at) datatype) ps))
       by (value t) (value ps) =
-          ap (λ l. value (encode (opt u32) (memidBy (signed32 (funcMemid s ti i))) ++ (encode (opt name) (nameBy s lib (signed32 (funcNameOffset s ti i))) ++ (encode (tree edition-one (lib .count)) t ++ l))))
+          ap (λ l. value (encode (opt u32) (memidBy (signed32 (funcMemid s ti i))) ++ (encode (opt name) (nameBy s lib (signed32 (funcNameOffset s ti i))) ++ (encode (tree edition-one (typeCount lib)) t ++ l))))
           (simp append-assoc)
       by (value t) (refused n) = refl
       by (refused n) ps = refl
@@ -153,7 +154,7 @@ module _ (s : List ℕ) (lib : TypeLib) where
       ▸ (bytesOfTree (treeOf s lib field)
       ▸ (value (leBytes 4 (orZero (read 4 s (p .at + 8))))
       ▸ (value (leBytes 2 varkind) ▸ value (valueBytes (isConstant varkind) (valueWith s lib (isConstant varkind) word))))))
-      ≡ map (encode (variable edition-one (lib .count))) (variableOf s lib ti i p)
+      ≡ map (encode (variable edition-one (typeCount lib))) (variableOf s lib ti i p)
   unfolding variableOf variable valueBytes
   variable-is ti i p {field} {varkind} {word} m o e g h k l =
       rw (e, g, h, k, l) (by (treeOf s lib (orZero (read 4 s (p .at + 4)))))
@@ -165,7 +166,7 @@ module _ (s : List ℕ) (lib : TypeLib) where
           ▸ (value (leBytes 4 (orZero (read 4 s (p .at + 8))))
           ▸ (value (leBytes 2 (orZero (read 2 s (p .at + 12))))
           ▸ value (encode (variableValue (isConstant (orZero (read 2 s (p .at + 12))))) (valueWith s lib (isConstant (orZero (read 2 s (p .at + 12)))) (orZero (read 4 s (p .at + 16)))))))))
-          ≡ map (encode (variable edition-one (lib .count))) (map (variableWith s lib ti i (p .at)) t)
+          ≡ map (encode (variable edition-one (typeCount lib))) (map (variableWith s lib ti i (p .at)) t)
       by (value t) = refl
       by (refused n) = refl
 
@@ -173,7 +174,7 @@ module _ (s : List ℕ) (lib : TypeLib) where
 
   module _ (f : FuncRecord) (a : Answer ParamCursor) (e : a ≡ paramsOf s f) where
     abbrev F : Format Parameter
-    F = parameter edition-one (lib .count)
+    F = parameter edition-one (typeCount lib)
 
     pub parameters-some : {c : ParamCursor} {n : ℕ} → a ≡ value c → n ≡ length (yields (paramStep s) (c .remaining) c)
         → value (leBytes 2 n) ▸ layAll F (numbered (parameterOf s lib f) 0 (yields (paramStep s) (c .remaining) c))
@@ -187,7 +188,7 @@ module _ (s : List ℕ) (lib : TypeLib) where
 
   module _ (ti : TypeInfoEntry) (a : Answer FuncCursor) (e : a ≡ funcsOf s ti) where
     abbrev G : Format Function
-    G = function edition-one (lib .count)
+    G = function edition-one (typeCount lib)
 
     pub functions-some : {c : FuncCursor} {n : ℕ} → a ≡ value c → n ≡ length (yields (funcStep s) (c .remaining) c)
         → value (leBytes 2 n) ▸ layAll G (numbered (functionOf s lib ti) 0 (yields (funcStep s) (c .remaining) c))
@@ -205,7 +206,7 @@ module _ (s : List ℕ) (lib : TypeLib) where
 
   module _ (ti : TypeInfoEntry) (a : Answer VarCursor) (e : a ≡ varsOf s ti) where
     abbrev H : Format Variable
-    H = variable edition-one (lib .count)
+    H = variable edition-one (typeCount lib)
 
     pub variables-some : {c : VarCursor} {n : ℕ} → a ≡ value c → n ≡ length (yields (varStep s) (c .remaining) c)
         → value (leBytes 2 n) ▸ layAll H (numbered (variableOf s lib ti) 0 (yields (varStep s) (c .remaining) c))

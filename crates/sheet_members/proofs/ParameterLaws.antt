@@ -1,4 +1,5 @@
 -- The parameters that a cursor yields lie one behind the other in the function's record. Assumes nothing.
+use Rattle.typelib.specs.Header.{typeCount}
 use mathlib.Core.Path.{_≡_, refl, sym, ap, _∙_}
 use mathlib.Core.List.{List, []}
 use Prim.Native.Nat.{ℕ, zero, suc, _+_, _-_, _*_, _≤_, _<_}
@@ -79,18 +80,18 @@ module _ (s : List ℕ) where
     module _ (lib : TypeLib) (f : FuncRecord) where
       -- the parameters from i on
       abbrev pub laidFrom : ℕ → Answer Bytes
-      laidFrom i = layAll (parameter edition-one (lib .count)) (numbered (parameterOf s lib f) i (yields (paramStep s) (c .remaining - i) (after i)))
+      laidFrom i = layAll (parameter edition-one (typeCount lib)) (numbered (parameterOf s lib f) i (yields (paramStep s) (c .remaining - i) (after i)))
 
-      pub laid-all : laidFrom 0 ≡ layAll (parameter edition-one (lib .count)) (numbered (parameterOf s lib f) 0 (yields (paramStep s) (c .remaining) c))
+      pub laid-all : laidFrom 0 ≡ layAll (parameter edition-one (typeCount lib)) (numbered (parameterOf s lib f) 0 (yields (paramStep s) (c .remaining) c))
       laid-all =
           let p : c .pos + 12 * 0 ≡ c .pos = omega arith in
           let q : c .remaining - 0 ≡ c .remaining = omega arith in
           rw (p, q) refl
 
       pub laid-one : (i : ℕ) → Room s c → i < c .remaining
-          → laidFrom i ≡ map (encode (parameter edition-one (lib .count))) (parameterOf s lib f i (record { at = c .pos + 12 * i; len = 12 })) ▸ laidFrom (i + 1)
+          → laidFrom i ≡ map (encode (parameter edition-one (typeCount lib))) (parameterOf s lib f i (record { at = c .pos + 12 * i; len = 12 })) ▸ laidFrom (i + 1)
       laid-one i r h =
-          laid-more (paramStep s) (λ (x : ParamCursor). x .remaining) (parameter edition-one (lib .count)) (parameterOf s lib f) i
+          laid-more (paramStep s) (λ (x : ParamCursor). x .remaining) (parameter edition-one (typeCount lib)) (parameterOf s lib f) i
           (param-yielded s (after i) (after (i + 1)) _ (step i r h) .lessens) (step i r h)
 
       pub laid-end : (i : ℕ) → c .remaining ≤ i → laidFrom i ≡ value []

@@ -3,3 +3,4 @@ pub mod Bodies
 pub mod Lists
 pub mod Room
 pub mod Words
+pub mod Emitted

@@ -15,21 +15,16 @@ use sheet_trees::trees;
 use sheet_trees::values;
 use typelib::Numbers;
 ghost use mathlib.Core.Path.{_≡_};
-ghost use Prim.Native.Nat.{_≤_};
-ghost use lib.ListN.{length};
-ghost use Rattle.records.specs.Answer.{value, map};
+ghost use Rattle.records.specs.Answer.{value};
 ghost use Rattle.records.specs.Record.{signed32};
 ghost use Rattle.records.specs.Told.{toldI32};
 ghost use Rattle.typelib.specs.TypeInfos.{funcMemid, funcNameOffset};
-ghost use Rattle.cursors.specs.Cursors.{funcStep};
-ghost use Rattle.description.specs.Format.{encode, list};
-ghost use Rattle.description.specs.Sheet.{edition-one, u16, function};
-ghost use Rattle.describe.specs.Values.{found, all, numbered};
-ghost use Rattle.describe.specs.Members.{yields, functionOf, functionsOf};
-ghost use Rattle.emit.specs.Emit.{Emitted, put, past};
+ghost use Rattle.describe.specs.Values.{found};
 ghost use Rattle.sheet_trees.specs.Names.{Near};
-ghost use Rattle.sheet_members.specs.Lists.{layAll};
 ghost use Rattle.sheet_members.specs.Words.{functionWords};
+ghost use Rattle.emit.specs.Emit.{Emits};
+ghost use Rattle.sheet_members.specs.Emitted.{FunctionsPut, functionEmitted, functionsEmitted};
+ghost use Rattle.typelib.specs.Header.{library};
 
 // The functions of a type: how many are yielded, and each.
 pub fn put_functions(s: &[u8], lib: &Numbers, ti: TypeInfoEntry, out: &mut [u8], to: usize) -> usize

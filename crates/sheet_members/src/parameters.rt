@@ -8,18 +8,12 @@ use sheet_trees::names::Names;
 use sheet_trees::trees;
 use sheet_trees::values;
 use typelib::Numbers;
-ghost use mathlib.Core.Path.{_≡_};
-ghost use Rattle.records.specs.Answer.{value, map};
 ghost use Rattle.records.specs.Told.{toldI32};
-ghost use Rattle.cursors.specs.Cursors.{paramStep};
-ghost use Rattle.description.specs.Format.{encode, opt, list};
-ghost use Rattle.description.specs.Sheet.{edition-one, u16, constant, parameter};
-ghost use Rattle.describe.specs.Values.{all, numbered};
-ghost use Rattle.describe.specs.Members.{yields, constantBy, parameterOf, parametersOf};
-ghost use Rattle.emit.specs.Emit.{Emitted, put};
 ghost use Rattle.sheet_trees.specs.Names.{Near};
-ghost use Rattle.sheet_members.specs.Lists.{layAll};
 ghost use Rattle.sheet_members.specs.Room.{Room};
+ghost use Rattle.emit.specs.Emit.{Emits};
+ghost use Rattle.sheet_members.specs.Emitted.{constantByEmitted, parameterEmitted, parametersEmitted, parametersFrom};
+ghost use Rattle.typelib.specs.Header.{library};
 
 // The parameters of a function: how many are yielded, and each.
 pub(crate) fn put_parameters(

@@ -11,20 +11,11 @@ use sheet_trees::trees;
 use sheet_trees::values;
 use typelib::Numbers;
 use typelib::typeinfos;
-ghost use mathlib.Core.Path.{_≡_};
-ghost use Prim.Native.Nat.{_≤_};
-ghost use lib.ListN.{length};
-ghost use Rattle.records.specs.Answer.{value, map};
 ghost use Rattle.records.specs.Told.{toldI32};
-ghost use Rattle.cursors.specs.Cursors.{varStep};
-ghost use Rattle.description.specs.Format.{encode, opt, list};
-ghost use Rattle.description.specs.Description.{isConstant};
-ghost use Rattle.description.specs.Sheet.{edition-one, u16, name, variable};
-ghost use Rattle.describe.specs.Values.{all, numbered};
-ghost use Rattle.describe.specs.Members.{nameBy, yields, valueWith, variableOf, variablesOf};
-ghost use Rattle.emit.specs.Emit.{Emitted, put, past};
-ghost use Rattle.sheet_members.specs.Lists.{layAll};
-ghost use Rattle.sheet_members.specs.Words.{valueBytes};
+ghost use Rattle.emit.specs.Emit.{Emits};
+ghost use Rattle.sheet_members.specs.Emitted.{VariablesPut, valueEmitted, variableEmitted, variablesEmitted};
+ghost use Rattle.sheet_trees.specs.Emitted.{nameByEmitted};
+ghost use Rattle.typelib.specs.Header.{library};
 
 // The variables of a type: how many are yielded, and each.
 pub fn put_variables(s: &[u8], lib: &Numbers, ti: TypeInfoEntry, out: &mut [u8], to: usize) -> usize

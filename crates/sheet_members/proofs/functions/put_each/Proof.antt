@@ -1,3 +1,4 @@
+use Rattle.typelib.specs.Header.{library, typeCount}
 use borrow.Author.Needs.{needs}
 use Rattle.sheet_members.specs.Lists.{layAll, laid-more, laid-none, counted-more, counted-none}
 use Rattle.emit.specs.Laws.{Left, left-all, left-less, left-none, refused-stays}
@@ -23,7 +24,7 @@ use Rattle.sheet_members.proofs.functions.put_each.Statement.{statement
 use Rattle.sheet_members.proofs.functions.put_each.Tie as tie
 
 abbrev Inv-loop : tie.InvT-loop
-Inv-loop s lib ti out₀ to rows names t₀ c₀ i₀ out t c i = Left (layAll (function edition-one (lib .count)) (numbered (functionOf s lib ti) 0 (yields (funcStep s) (c₀ .remaining) c₀))) (put t₀) out₀ (layAll (function edition-one (lib .count)) (numbered (functionOf s lib ti) i (yields (funcStep s) (c .remaining) c))) (put t) out × (i + c .remaining ≡ c₀ .remaining) × (c₀ .remaining < 2 ^ 64) × (i + length (yields (funcStep s) (c .remaining) c) ≡ length (yields (funcStep s) (c₀ .remaining) c₀))
+Inv-loop s lib ti out₀ to rows names t₀ c₀ i₀ out t c i = Left (layAll (function edition-one (typeCount (library lib))) (numbered (functionOf s (library lib) ti) 0 (yields (funcStep s) (c₀ .remaining) c₀))) (put t₀) out₀ (layAll (function edition-one (typeCount (library lib))) (numbered (functionOf s (library lib) ti) i (yields (funcStep s) (c .remaining) c))) (put t) out × (i + c .remaining ≡ c₀ .remaining) × (c₀ .remaining < 2 ^ 64) × (i + length (yields (funcStep s) (c .remaining) c) ≡ length (yields (funcStep s) (c₀ .remaining) c₀))
 
 abbrev μ-loop : tie.MeasureT-loop
 μ-loop s lib ti out₀ to rows names t₀ c₀ i₀ out t c i = c .remaining

@@ -1,3 +1,4 @@
+use Rattle.typelib.specs.Header.{library}
 use Prim.Native.Nat.{_-_}
 use native.Mathlib.Omega.{arith}
 use Rattle.emit.specs.Emit.{put}
@@ -7,7 +8,7 @@ use Rattle.sheet_members.proofs.parameters.put_each.Statement.{statemen
 use Rattle.sheet_members.proofs.parameters.put_each.Tie as tie
 
 abbrev Inv-loop : tie.InvT-loop
-Inv-loop s lib names func cursor out₀ to t₀ i₀ out t i = Left (laidFrom s cursor lib func 0) (put t₀) out₀ (laidFrom s cursor lib func i) (put t) out
+Inv-loop s lib names func cursor out₀ to t₀ i₀ out t i = Left (laidFrom s cursor (library lib) func 0) (put t₀) out₀ (laidFrom s cursor (library lib) func i) (put t) out
 
 abbrev μ-loop : tie.MeasureT-loop
 μ-loop s lib names func cursor out₀ to t₀ i₀ out t i = cursor .remaining - i
@@ -34,10 +35,10 @@ loop-again : tie.Need-loop-again Inv-loop μ-loop
 loop-again c = left-less (c .before .before .before .before .before .before .before .loop .inv) (c .before .before .put-parameter .ensures) (laid-one _ _ _ _ _ (c .before .before .before .before .before .before .before .before .before .before .pre .1) (c .before .before .before .before .before .if1 .taken))
 
 same-length : tie.Need-same-length Inv-loop μ-loop
-same-length c = left-none (c .before .before .loop .inv) (laid-end _ _ _ _ _ (omega arith)) .keeps
+same-length c = left-none (c .before .before .loop .inv) (laid-end (c .before .before .before .before .before .args .s .now) (c .before .before .before .before .before .args .cursor) (library (c .before .before .before .before .before .args .lib .now)) (c .before .before .before .before .before .args .func) _ (omega arith)) .keeps
 
 returns : tie.Need-returns Inv-loop μ-loop
-returns c = known (laid-all _ _ _ _) (left-none (c .before .before .loop .inv) (laid-end _ _ _ _ _ (omega arith)))
+returns c = known (laid-all (c .before .before .before .before .before .args .s .now) (c .before .before .before .before .before .args .cursor) (library (c .before .before .before .before .before .args .lib .now)) (c .before .before .before .before .before .args .func)) (left-none (c .before .before .loop .inv) (laid-end (c .before .before .before .before .before .args .s .now) (c .before .before .before .before .before .args .cursor) (library (c .before .before .before .before .before .args .lib .now)) (c .before .before .before .before .before .args .func) _ (omega arith)))
 
 pub put-each-spec : {M : Type 1} → statement M
 put-each-spec =
