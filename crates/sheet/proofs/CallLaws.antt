@@ -11,7 +11,7 @@ use Rattle.records.specs.Answer.{Answer, value, refused, map, bind}
 use Rattle.records.specs.Record.{limit}
 use Rattle.typelib.specs.declared.TypeLib.{TypeLib}
 use Rattle.typelib.specs.declared.Parsed.{Parsed}
-use Rattle.typelib.specs.Header.{parseOf, parsed}
+use Rattle.typelib.specs.Header.{parseOf, parsed, typeCount}
 use Rattle.description.specs.Description.{Bytes}
 use Rattle.description.specs.Sheet.{edition-one, sheetBytes}
 use Rattle.describe.specs.Describe.{headerOf, typesOf, describeAs, describe}

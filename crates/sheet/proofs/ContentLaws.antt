@@ -1,4 +1,5 @@
 -- Contents and bodies, written in another order than they are laid out, are the sheet. Assumes nothing.
+use Rattle.typelib.specs.Header.{typeCount}
 use mathlib.Core.Path.{_≡_, refl, sym, ap, ap₂, _∙_}
 use mathlib.Core.List.{List, [], _∷_, _++_, append-assoc, append-nil}
 use mathlib.Core.List as lists
@@ -158,7 +159,7 @@ pub record LeftTwo (ks xs : Answer Bytes) (c : ℕ) (t₀ : Put) (o₀ : List �
 
 module _ (s : List ℕ) (lib : TypeLib) where
   abbrev F : Format TypeInfo
-  F = typeInfo edition-one (lib .count)
+  F = typeInfo edition-one (typeCount lib)
 
   abbrev lens : ℕ → ℕ → Answer Bytes
   lens n i = lensOf F (typesFrom s lib n i)
@@ -272,41 +273,41 @@ sheet-laid h n y unsized = refl
 -- its parts, for a library
 module _ (s : List ℕ) (lib : TypeLib) where
   abbrev form : Format TypeInfo
-  form = typeInfo edition-one (lib .count)
+  form = typeInfo edition-one (typeCount lib)
 
   abbrev bodies-of : List (Answer TypeInfo)
-  bodies-of = typesFrom s lib (lib .count) 0
+  bodies-of = typesFrom s lib (typeCount lib) 0
 
   abbrev own-body : Bytes
   own-body = encode header (headerOf s lib)
 
-  parts-are : value (leBytes 4 (lib .count)) ▸ ((lenOf (value own-body) ▸ lensOf form bodies-of) ▸ (value own-body ▸ layAll form bodies-of)) ≡ sheetEmitted s lib
+  parts-are : value (leBytes 4 (typeCount lib)) ▸ ((lenOf (value own-body) ▸ lensOf form bodies-of) ▸ (value own-body ▸ layAll form bodies-of)) ≡ sheetEmitted s lib
   unfolding sheetEmitted
   parts-are =
-      ap₂ (λ (x y : Answer Bytes). value (leBytes 4 (lib .count)) ▸ ((value (leBytes 4 (length own-body)) ▸ x) ▸ (value own-body ▸ y))) (lens-laid form bodies-of) (sym (all-laid form bodies-of))
-      ∙ sheet-laid (headerOf s lib) (lib .count) (all bodies-of) (rw (types-length s lib (lib .count) 0) at (all-sized form bodies-of))
+      ap₂ (λ (x y : Answer Bytes). value (leBytes 4 (typeCount lib)) ▸ ((value (leBytes 4 (length own-body)) ▸ x) ▸ (value own-body ▸ y))) (lens-laid form bodies-of) (sym (all-laid form bodies-of))
+      ∙ sheet-laid (headerOf s lib) (typeCount lib) (all bodies-of) (rw (types-length s lib (typeCount lib) 0) at (all-sized form bodies-of))
 
-  both-parts : Both (suc (lib .count)) (lenOf (value own-body) ▸ lensOf form bodies-of) (value own-body ▸ layAll form bodies-of)
-  both-parts = both-more (value own-body) (rw (types-length s lib (lib .count) 0) at (both-all form bodies-of))
+  both-parts : Both (suc (typeCount lib)) (lenOf (value own-body) ▸ lensOf form bodies-of) (value own-body ▸ layAll form bodies-of)
+  both-parts = both-more (value own-body) (rw (types-length s lib (typeCount lib) 0) at (both-all form bodies-of))
 
-  start-at : lib .count ≤ 65535 → put (8 + 4 * lib .count) ≡ At (8 + 4 * lib .count)
-  start-at few = put-at (8 + 4 * lib .count) (omega (arith, few))
+  start-at : typeCount lib ≤ 65535 → put (8 + 4 * typeCount lib) ≡ At (8 + 4 * typeCount lib)
+  start-at few = put-at (8 + 4 * typeCount lib) (omega (arith, few))
 
-  pub sheet-whole : {t u r : Put} {o o₁ o₂ o₃ o₄ : List ℕ} → lib .count ≤ 65535
-      → Emitted (value (leBytes 4 (lib .count))) (put 0) o t o₁
-      → Emitted (value own-body) (put (8 + 4 * lib .count)) o₁ u o₂ → Patched (put (8 + 4 * lib .count)) u 4 o₂ o₃
+  pub sheet-whole : {t u r : Put} {o o₁ o₂ o₃ o₄ : List ℕ} → typeCount lib ≤ 65535
+      → Emitted (value (leBytes 4 (typeCount lib))) (put 0) o t o₁
+      → Emitted (value own-body) (put (8 + 4 * typeCount lib)) o₁ u o₂ → Patched (put (8 + 4 * typeCount lib)) u 4 o₂ o₃
       → Twofold (lensOf form bodies-of) (layAll form bodies-of) 8 u o₃ r o₄ → Emitted (sheetEmitted s lib) (put 0) o r o₄
   sheet-whole few a h p w =
       let first : put 0 ≡ At 0 = put-at 0 (omega arith) in
       rw first (known parts-are (whole (omega (arith, few)) both-parts (rw first at a) (two-more (rw (start-at few) at h) (rw (start-at few) at p) w)))
 
   -- where it ends, by the lengths of its parts
-  pub sheet-size : {t r : Put} {o o′ : List ℕ} → lib .count ≤ 65535 → Emitted (value own-body) (put (8 + 4 * lib .count)) o t o′ → r ≡ moved t (layAll form bodies-of)
+  pub sheet-size : {t r : Put} {o o′ : List ℕ} → typeCount lib ≤ 65535 → Emitted (value own-body) (put (8 + 4 * typeCount lib)) o t o′ → r ≡ moved t (layAll form bodies-of)
       → r ≡ moved (put 0) (sheetEmitted s lib)
   sheet-size {t} few h w =
       w
       ∙ ap (λ (u : Put). moved u (layAll form bodies-of)) (h .moves)
-      ∙ moved-join (value own-body) (layAll form bodies-of) (put (8 + 4 * lib .count))
+      ∙ moved-join (value own-body) (layAll form bodies-of) (put (8 + 4 * typeCount lib))
       ∙ ap (λ (u : Put). moved u (value own-body ▸ layAll form bodies-of)) (start-at few)
       ∙ whole-moves (omega (arith, few)) both-parts
       ∙ ap (moved (At 0)) parts-are

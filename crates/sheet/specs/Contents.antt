@@ -10,14 +10,17 @@ use lib.Seq.{sets}
 use Rattle.records.specs.Answer.{Answer, value, refused, map, bind}
 use Rattle.records.specs.Record.{limit}
 use Rattle.typelib.specs.declared.TypeLib.{TypeLib}
+use Rattle.typelib.specs.Header.{typeCount}
 use Rattle.description.specs.Format.{Format, encode, leBytes}
 use Rattle.description.specs.Description.{Bytes}
-use Rattle.description.specs.Sheet.{edition-one, sheetBytes}
+use Rattle.description.specs.Sheet.{edition-one, header, typeInfo, sheetBytes}
 use Rattle.describe.specs.Call.{within, written}
 use Rattle.describe.specs.Describe.{headerOf, typesOf}
+use Rattle.describe.specs.Types.{typesFrom}
 use Rattle.emit.specs.Emit.{Put}
 use Rattle.emit.specs.Emit.{At, Refused}
 use Rattle.emit.specs.Emit.{_▸_, past, put, moved, overwritten}
+use Rattle.sheet_members.specs.Bodies.{bodiesEmitted}
 
 -- the whole sheet of a library
 unfoldable pub sheetEmitted : List ℕ → TypeLib → Answer Bytes
@@ -67,6 +70,22 @@ pub record Within (most r : ℕ) (o o′ : List ℕ) (P : Type 0) : Type 0 where
   pub short : (r ≡ past → ⊥) → P
   pub endless : past ≤ most → P
   pub keeps : length o′ ≡ length o
+
+-- ---- what the emitters of contents and bodies leave
+
+module _ (s : List ℕ) (lib : TypeLib) where
+  -- the library's own body
+  abbrev pub headerEmitted : Answer Bytes
+  headerEmitted = value (encode header (headerOf s lib))
+
+  -- the whole sheet, from the output's first byte
+  abbrev pub SheetPut : ℕ → List ℕ → ℕ → List ℕ → Type 0
+  SheetPut most o r o′ = Within most r o o′ (Emitted (sheetEmitted s lib) (put 0) o (put r) o′)
+
+  -- the bodies of all types from the place `to`, and their lengths in the contents, from the eighth byte
+  abbrev pub BodiesPut : ℕ → ℕ → List ℕ → ℕ → List ℕ → Type 0
+  BodiesPut most to o r o′ =
+      Within most r o o′ (Twofold (lensOf (typeInfo edition-one (typeCount lib)) (typesFrom s lib (typeCount lib) 0)) (bodiesEmitted s lib) 8 (put to) o (put r) o′)
 
 -- a call that was to write x into an output that held o: its reply, and the output after it
 pub record Answered (x : Answer Bytes) (o : List ℕ) (r : Answer ℕ) (o′ : List ℕ) : Type 0 where

@@ -5,15 +5,10 @@ use typelib::Numbers;
 use typelib::TypeInfoIndex;
 use typelib::tables;
 ghost use mathlib.Core.Path.{_≡_};
-ghost use Prim.Native.Nat.{_+_, _*_, _≤_};
-ghost use Rattle.records.specs.Answer.{value};
-ghost use Rattle.description.specs.Format.{encode};
-ghost use Rattle.description.specs.Sheet.{edition-one, header, typeInfo};
-ghost use Rattle.describe.specs.Describe.{headerOf};
-ghost use Rattle.describe.specs.Types.{typesFrom};
-ghost use Rattle.emit.specs.Emit.{Emitted, put, moved};
-ghost use Rattle.sheet_members.specs.Lists.{layAll};
-ghost use Rattle.sheet.specs.Contents.{lensOf, sheetEmitted, Patched, Twofold, Within};
+ghost use Prim.Native.Nat.{_≤_};
+ghost use Rattle.emit.specs.Emit.{put, moved, Emits};
+ghost use Rattle.sheet.specs.Contents.{sheetEmitted, Patched, BodiesPut, SheetPut, headerEmitted};
+ghost use Rattle.typelib.specs.Header.{library, typeCount};
 
 // Where the contents have the length of the library's body, and of the first type's.
 const LIBRARY_LENGTH: usize = 4;

@@ -3,12 +3,12 @@
 use records::answer::UsizeAnswer;
 use typelib::Numbers;
 use typelib::TypeLib;
-ghost use mathlib.Core.Path.{_≡_};
 ghost use Prim.Native.Nat.{_≤_};
 ghost use Rattle.records.specs.Told.{toldUsize};
 ghost use Rattle.description.specs.Sheet.{edition-one};
 ghost use Rattle.describe.specs.Call.{Call};
-ghost use Rattle.sheet.specs.Contents.{sheetEmitted, Answered, Made};
+ghost use Rattle.sheet.specs.Contents.{sheetEmitted, Answered, Made, made};
+ghost use Rattle.typelib.specs.Header.{library, typeCount};
 
 mod contents;
 

@@ -1,4 +1,5 @@
 -- What a type is based on: its emissions, one behind the other, are those of its format. Assumes nothing.
+use Rattle.typelib.specs.Header.{typeCount}
 use mathlib.Core.Path.{_≡_, refl, sym, ap, _∙_}
 use mathlib.Core.List.{List, [], _∷_, _++_}
 use mathlib.Core.List as lists
@@ -31,8 +32,8 @@ module _ (s : List ℕ) (lib : TypeLib) where
   -- ---- the chain
 
   pub link-is : (p : Place) {href : ℕ} → href ≡ orZero (read 4 s (p .at + 0))
-      → value (encode (reference edition-one (lib .count)) (referenceOf s lib href)) ▸ value (leBytes 4 (orZero (read 4 s (p .at + 4))))
-      ≡ value (encode (implType edition-one (lib .count)) (implTypeAt s lib p))
+      → value (encode (reference edition-one (typeCount lib)) (referenceOf s lib href)) ▸ value (leBytes 4 (orZero (read 4 s (p .at + 4))))
+      ≡ value (encode (implType edition-one (typeCount lib)) (implTypeAt s lib p))
   unfolding implType
   link-is p {href} e = rw e
 
@@ -63,7 +64,7 @@ module _ (s : List ℕ) (lib : TypeLib) where
       at-end {X} {m} {e} q = absurd (let z : yielded (placeAt s c k) (cursorAt s c (suc k)) ≡ ended m e = along ∙ sym q in let y : _≡_ {A = ℕ} 0 1 = cc in omega arith)
 
     pub links-more : (k : ℕ) {p : Place} → k < n → p ≡ placeAt s c k
-        → value (linksBytes s lib c n k) ≡ value (encode (implType edition-one (lib .count)) (implTypeAt s lib p)) ▸ value (linksBytes s lib c n (k + 1))
+        → value (linksBytes s lib c n k) ≡ value (encode (implType edition-one (typeCount lib)) (implTypeAt s lib p)) ▸ value (linksBytes s lib c n (k + 1))
     unfolding linksBytes
     links-more k {p} h e =
         let l : k < length (tabulate (placeAt s c) n) = omega (arith, length-tabulate (placeAt s c) n) in
@@ -81,18 +82,18 @@ module _ (s : List ℕ) (lib : TypeLib) where
         let q : walkOf s c ≡ value n = sym e ∙ f in
         let l : length (lists.map (implTypeAt s lib) (tabulate (placeAt s c) n)) ≡ n =
         length-map (tabulate (placeAt s c) n) (implTypeAt s lib) ∙ length-tabulate (placeAt s c) n in
-        rw q (ap (λ m. value (leBytes 4 m ++ joined (implType edition-one (lib .count)) (lists.map (implTypeAt s lib) (tabulate (placeAt s c) n)))) (sym l))
+        rw q (ap (λ m. value (leBytes 4 m ++ joined (implType edition-one (typeCount lib)) (lists.map (implTypeAt s lib) (tabulate (placeAt s c) n)))) (sym l))
 
   pub walked-refused : (c : ImplTypeCursor) (a : Answer ℕ) {n : ℕ} → a ≡ walkOf s c → a ≡ refused n → refused n ≡ chainEmitted s lib c
   unfolding chainEmitted recordsOf
   walked-refused c a {n} e f = let q : walkOf s c ≡ refused n = sym e ∙ f in rw q
 
   module _ (ti : TypeInfoEntry) (a : Answer ImplTypeCursor) (e : a ≡ implTypesOf s lib ti) where
-    pub chain-is : {c : ImplTypeCursor} → a ≡ value c → chainEmitted s lib c ≡ map (encode (list u32 (implType edition-one (lib .count)))) (implTypesAt s lib ti)
+    pub chain-is : {c : ImplTypeCursor} → a ≡ value c → chainEmitted s lib c ≡ map (encode (list u32 (implType edition-one (typeCount lib)))) (implTypesAt s lib ti)
     unfolding chainEmitted implTypesAt
     chain-is {c} f = let q : implTypesOf s lib ti ≡ value c = sym e ∙ f in rw q
 
-    pub chain-refused : {n : ℕ} → a ≡ refused n → refused n ≡ map (encode (list u32 (implType edition-one (lib .count)))) (implTypesAt s lib ti)
+    pub chain-refused : {n : ℕ} → a ≡ refused n → refused n ≡ map (encode (list u32 (implType edition-one (typeCount lib)))) (implTypesAt s lib ti)
     unfolding implTypesAt
     chain-refused {n} f = let q : implTypesOf s lib ti ≡ refused n = sym e ∙ f in rw q
 
@@ -104,18 +105,18 @@ module _ (s : List ℕ) (lib : TypeLib) where
     shaped k h e = ap (shapeEmitted s lib ti) (sym e)
 
     pub base-parent : {x : ℕ} (k : ℕ) → x ≡ orZero (read 4 s (ti .at + 84)) → baseShapeOf k ≡ parent
-        → value (encode (reference edition-one (lib .count)) (referenceOf s lib x)) ≡ baseEmitted s lib ti k
+        → value (encode (reference edition-one (typeCount lib)) (referenceOf s lib x)) ≡ baseEmitted s lib ti k
     unfolding shapeEmitted
-    base-parent {x} k e h = ap (λ y. value (encode (reference edition-one (lib .count)) (referenceOf s lib y))) e ∙ shaped k parent h
+    base-parent {x} k e h = ap (λ y. value (encode (reference edition-one (typeCount lib)) (referenceOf s lib y))) e ∙ shaped k parent h
 
-    pub base-chain : (k : ℕ) → k ≡ 5 → map (encode (list u32 (implType edition-one (lib .count)))) (implTypesAt s lib ti) ≡ baseEmitted s lib ti k
+    pub base-chain : (k : ℕ) → k ≡ 5 → map (encode (list u32 (implType edition-one (typeCount lib)))) (implTypesAt s lib ti) ≡ baseEmitted s lib ti k
     unfolding shapeEmitted
     base-chain k h = shaped k implTypes (ap baseShapeOf h)
 
     pub base-aliased : {x : ℕ} (k : ℕ) → x ≡ orZero (read 4 s (ti .at + 84)) → k ≡ 6
-        → map (encode (tree edition-one (lib .count))) (treeOf s lib x) ≡ baseEmitted s lib ti k
+        → map (encode (tree edition-one (typeCount lib))) (treeOf s lib x) ≡ baseEmitted s lib ti k
     unfolding shapeEmitted
-    base-aliased {x} k e h = ap (λ y. map (encode (tree edition-one (lib .count))) (treeOf s lib y)) e ∙ shaped k aliased (ap baseShapeOf h)
+    base-aliased {x} k e h = ap (λ y. map (encode (tree edition-one (typeCount lib))) (treeOf s lib y)) e ∙ shaped k aliased (ap baseShapeOf h)
 
     absent-shape : (k : ℕ) → (k ≡ 3 → ⊥) → (k ≡ 4 → ⊥) → (k ≡ 5 → ⊥) → (k ≡ 6 → ⊥) → baseShapeOf k ≡ absent
     absent-shape zero a b c d = refl

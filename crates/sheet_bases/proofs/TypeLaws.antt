@@ -1,4 +1,5 @@
 -- A type's emissions, one behind the other, are those of its format. Assumes nothing.
+use Rattle.typelib.specs.Header.{typeCount}
 use mathlib.Core.Path.{_≡_, refl, sym, ap, _∙_}
 use mathlib.Core.List.{List, [], _∷_, _++_, append-assoc}
 use Prim.Native.Nat.{ℕ, _+_, _/_, _%_, _^_}
@@ -36,31 +37,31 @@ module _ (s : List ℕ) (lib : TypeLib) where
       → value (headBytes s (ti .at) kind)
       ▸ (value (namesBytes s lib (ti .at))
       ▸ (baseEmitted s lib ti kind
-      ▸ (map (encode (list u16 (function edition-one (lib .count)))) (all (functionsOf s lib ti))
-      ▸ map (encode (list u16 (variable edition-one (lib .count)))) (all (variablesOf s lib ti)))))
-      ≡ map (encode (typeInfo edition-one (lib .count))) (typeAt s lib ti)
+      ▸ (map (encode (list u16 (function edition-one (typeCount lib)))) (all (functionsOf s lib ti))
+      ▸ map (encode (list u16 (variable edition-one (typeCount lib)))) (all (variablesOf s lib ti)))))
+      ≡ map (encode (typeInfo edition-one (typeCount lib))) (typeAt s lib ti)
   unfolding typeAt typeInfo headBytes namesBytes baseEmitted shapeEmitted
   type-is ti {w} {kind} e f =
       let q : kind ≡ kindAt s (ti .at) = f ∙ ap (λ x. x / 2 ^ 0 % 2 ^ 4) e in
-      ap (λ k. value (headBytes s (ti .at) k) ▸ (value (namesBytes s lib (ti .at)) ▸ (baseEmitted s lib ti k ▸ (map (encode (list u16 (function edition-one (lib .count)))) (all (functionsOf s lib ti)) ▸ map (encode (list u16 (variable edition-one (lib .count)))) (all (variablesOf s lib ti)))))) q
+      ap (λ k. value (headBytes s (ti .at) k) ▸ (value (namesBytes s lib (ti .at)) ▸ (baseEmitted s lib ti k ▸ (map (encode (list u16 (function edition-one (typeCount lib)))) (all (functionsOf s lib ti)) ▸ map (encode (list u16 (variable edition-one (typeCount lib)))) (all (variablesOf s lib ti)))))) q
       ∙ (by (baseOf s lib ti (baseShapeOf (kindAt s (ti .at)))) (all (functionsOf s lib ti)) (all (variablesOf s lib ti)))
     where
       by : (b : Answer (Base (baseShapeOf (kindAt s (ti .at))))) (fs : Answer (List Function)) (vs : Answer (List Variable))
           → value (headBytes s (ti .at) (kindAt s (ti .at)))
           ▸ (value (namesBytes s lib (ti .at))
-          ▸ (map (encode (base edition-one (lib .count) (baseShapeOf (kindAt s (ti .at))))) b
-          ▸ (map (encode (list u16 (function edition-one (lib .count)))) fs ▸ map (encode (list u16 (variable edition-one (lib .count)))) vs)))
-          ≡ map (encode (typeInfo edition-one (lib .count))) (bind b (λ under. bind fs (λ functions. map (typeWith s lib (ti .at) under functions) vs)))
+          ▸ (map (encode (base edition-one (typeCount lib) (baseShapeOf (kindAt s (ti .at))))) b
+          ▸ (map (encode (list u16 (function edition-one (typeCount lib)))) fs ▸ map (encode (list u16 (variable edition-one (typeCount lib)))) vs)))
+          ≡ map (encode (typeInfo edition-one (typeCount lib))) (bind b (λ under. bind fs (λ functions. map (typeWith s lib (ti .at) under functions) vs)))
       by (value b) (value fs) (value vs) = simp append-assoc
       by (value b) (value fs) (refused n) = refl
       by (value b) (refused n) vs = refl
       by (refused n) fs vs = refl
 
   pub type-found : (i : ℕ) (a : Answer Place) {ti : TypeInfoEntry} → a ≡ typeinfoOf s lib i → a ≡ value (record { at = ti .at; len = ti .len })
-      → map (encode (typeInfo edition-one (lib .count))) (typeAt s lib ti) ≡ map (encode (typeInfo edition-one (lib .count))) (typeOf s lib i)
+      → map (encode (typeInfo edition-one (typeCount lib))) (typeAt s lib ti) ≡ map (encode (typeInfo edition-one (typeCount lib))) (typeOf s lib i)
   unfolding typeOf
   type-found i a {ti} e f = let q : typeinfoOf s lib i ≡ value (record { at = ti .at; len = ti .len }) = sym e ∙ f in rw q
 
-  pub type-missing : (i : ℕ) (a : Answer Place) {n : ℕ} → a ≡ typeinfoOf s lib i → a ≡ refused n → refused n ≡ map (encode (typeInfo edition-one (lib .count))) (typeOf s lib i)
+  pub type-missing : (i : ℕ) (a : Answer Place) {n : ℕ} → a ≡ typeinfoOf s lib i → a ≡ refused n → refused n ≡ map (encode (typeInfo edition-one (typeCount lib))) (typeOf s lib i)
   unfolding typeOf
   type-missing i a {n} e f = let q : typeinfoOf s lib i ≡ refused n = sym e ∙ f in rw q

@@ -9,13 +9,11 @@ use sheet_trees::references;
 use sheet_trees::trees;
 use typelib::Numbers;
 ghost use mathlib.Core.Path.{_≡_};
-ghost use Rattle.records.specs.Answer.{value, map};
+ghost use Rattle.records.specs.Answer.{value};
 ghost use Rattle.impltypes.specs.Chain.{walkOf, toldWalk};
-ghost use Rattle.description.specs.Format.{encode, list};
-ghost use Rattle.description.specs.Sheet.{edition-one, u32, implType};
-ghost use Rattle.describe.specs.Types.{implTypeAt, implTypesAt};
-ghost use Rattle.emit.specs.Emit.{Emitted, put};
-ghost use Rattle.sheet_bases.specs.Bases.{baseEmitted, chainEmitted, linksBytes};
+ghost use Rattle.sheet_bases.specs.Bases.{baseEmitted, chainEmitted, linksBytes, implTypeEmitted, implTypesEmitted};
+ghost use Rattle.emit.specs.Emit.{Emits};
+ghost use Rattle.typelib.specs.Header.{library};
 
 // The base of a type of that kind.
 pub fn put_base(

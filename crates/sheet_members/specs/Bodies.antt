@@ -18,6 +18,10 @@ module _ (s : List ℕ) (lib : TypeLib) where
   abbrev pub bodies : ℕ → ℕ → Answer Bytes
   bodies n i = layAll (typeInfo edition-one (typeCount lib)) (typesFrom s lib n i)
 
+  -- those of all types
+  abbrev pub bodiesEmitted : Answer Bytes
+  bodiesEmitted = bodies (typeCount lib) 0
+
   pub bodies-all : (n : ℕ) → bodies (n - 0) 0 ≡ bodies n 0
   bodies-all n = let e : n - 0 ≡ n = omega arith in rw e
 

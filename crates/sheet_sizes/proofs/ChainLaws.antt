@@ -1,4 +1,5 @@
 -- The chain of implemented types, gone along once: its records are measured while it is walked. Assumes nothing.
+use Rattle.typelib.specs.Header.{typeCount}
 use mathlib.Core.Path.{_≡_, refl, sym, ap, _∙_}
 use mathlib.Core.Bool.{false}
 use mathlib.Core.List.{List, [], _∷_, _++_, append-assoc, append-nil}
@@ -94,7 +95,7 @@ joined-last F f [] x = sym (append-nil (encode F (f x)))
 joined-last F f (y ∷ xs) x = append-assoc (encode F (f y)) _ _ ∙ ap (λ (l : List ℕ). encode F (f y) ++ l) (joined-last F f xs x)
 
 pub links-last : (s : List ℕ) (lib : TypeLib) (c : ImplTypeCursor) (n : ℕ) {p : Place} → p ≡ placeAt s c n
-    → value (linksBytes s lib c n 0) ▸ value (encode (implType edition-one (lib .count)) (implTypeAt s lib p)) ≡ value (linksBytes s lib c (n + 1) 0)
+    → value (linksBytes s lib c n 0) ▸ value (encode (implType edition-one (typeCount lib)) (implTypeAt s lib p)) ≡ value (linksBytes s lib c (n + 1) 0)
 unfolding linksBytes tabulate
 links-last s lib c n {p} e =
-    rw (e, add-one n) (ap value (joined-last (implType edition-one (lib .count)) (implTypeAt s lib) (tabulate (placeAt s c) n) (placeAt s c n)))
+    rw (e, add-one n) (ap value (joined-last (implType edition-one (typeCount lib)) (implTypeAt s lib) (tabulate (placeAt s c) n) (placeAt s c n)))

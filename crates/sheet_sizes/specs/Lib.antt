@@ -1,2 +1,3 @@
 -- Where an emission would end.
 pub mod Measured
+pub mod Functions

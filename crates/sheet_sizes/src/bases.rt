@@ -7,13 +7,9 @@ use records::refrecord::RefRecord;
 use records::typeinfo::TypeInfoEntry;
 use sheet_trees::references;
 use typelib::Numbers;
-ghost use mathlib.Core.Path.{_≡_};
-ghost use Rattle.records.specs.Answer.{value, map};
-ghost use Rattle.description.specs.Format.{encode, list};
-ghost use Rattle.description.specs.Sheet.{edition-one, u32, implType};
-ghost use Rattle.describe.specs.Types.{implTypeAt, implTypesAt};
-ghost use Rattle.sheet_bases.specs.Bases.{baseEmitted, chainEmitted};
+ghost use Rattle.sheet_bases.specs.Bases.{baseEmitted, chainEmitted, implTypeEmitted, implTypesEmitted};
 ghost use Rattle.sheet_sizes.specs.Measured.{Measured};
+ghost use Rattle.typelib.specs.Header.{library};
 
 // The base of a type of that kind: by its emitter, over an output with no room, unless it is a chain.
 pub(crate) fn after_base(s: &[u8], lib: &Numbers, ti: TypeInfoEntry, kind: u32, to: usize) -> usize

@@ -12,20 +12,12 @@ use records::typeinfo::TypeInfoEntry;
 use sheet_members::words;
 use sheet_trees::names::Names;
 use typelib::Numbers;
-ghost use mathlib.Core.Path.{_≡_};
-ghost use Prim.Native.Nat.{ℕ};
-ghost use Rattle.records.specs.Answer.{value, map};
-ghost use Rattle.records.specs.Record.{signed32};
 ghost use Rattle.records.specs.Told.{toldI32};
-ghost use Rattle.typelib.specs.TypeInfos.{funcMemid, funcNameOffset};
-ghost use Rattle.cursors.specs.Cursors.{funcStep};
-ghost use Rattle.description.specs.Format.{encode, list};
-ghost use Rattle.description.specs.Sheet.{edition-one, u16, function};
-ghost use Rattle.describe.specs.Values.{found, all, numbered};
-ghost use Rattle.describe.specs.Members.{yields, functionOf, functionsOf};
-ghost use Rattle.sheet_members.specs.Lists.{layAll};
 ghost use Rattle.sheet_trees.specs.Names.{Near};
 ghost use Rattle.sheet_sizes.specs.Measured.{Measured};
+ghost use Rattle.sheet_members.specs.Emitted.{functionsEmitted, functionsFrom};
+ghost use Rattle.sheet_sizes.specs.Functions.{FunctionMeasured};
+ghost use Rattle.typelib.specs.Header.{library};
 
 // The functions of a type: their count, and each.
 pub(crate) fn after_functions(s: &[u8], lib: &Numbers, ti: TypeInfoEntry, to: usize) -> usize

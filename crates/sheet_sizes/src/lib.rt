@@ -6,13 +6,11 @@ use typelib::TypeInfoIndex;
 use typelib::tables;
 use typelib::typeinfos;
 use typelib::typeinfos::TypeInfoAnswer;
-ghost use Rattle.records.specs.Answer.{value, map};
-ghost use Rattle.description.specs.Format.{encode};
-ghost use Rattle.description.specs.Sheet.{edition-one, typeInfo};
-ghost use Rattle.describe.specs.Types.{typeAt, typeOf, typesFrom};
-ghost use Rattle.sheet_members.specs.Lists.{layAll};
-ghost use Rattle.sheet_bases.specs.Types.{namesBytes};
+ghost use Rattle.records.specs.Answer.{value};
+ghost use Rattle.sheet_bases.specs.Types.{namesBytes, typeAtEmitted, typeEmitted};
 ghost use Rattle.sheet_sizes.specs.Measured.{Measured, Counted};
+ghost use Rattle.sheet_members.specs.Bodies.{bodiesEmitted};
+ghost use Rattle.typelib.specs.Header.{library};
 
 mod bases;
 mod functions;

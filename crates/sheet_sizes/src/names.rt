@@ -3,15 +3,11 @@ use records::answer::I32Answer;
 use records::answer::PlaceAnswer;
 use sheet_trees::names::Names;
 use typelib::Numbers;
-ghost use mathlib.Core.Path.{_≡_};
-ghost use Rattle.records.specs.Answer.{value};
 ghost use Rattle.records.specs.Told.{toldI32};
-ghost use Rattle.description.specs.Format.{encode, opt};
-ghost use Rattle.description.specs.Sheet.{u32, guid, name};
-ghost use Rattle.describe.specs.References.{guidOf};
-ghost use Rattle.describe.specs.Members.{nameOf, nameBy, memidBy};
 ghost use Rattle.sheet_trees.specs.Names.{Near};
 ghost use Rattle.sheet_sizes.specs.Measured.{Measured};
+ghost use Rattle.sheet_trees.specs.Emitted.{guidEmitted, memidEmitted, nameByEmitted, nameEmitted};
+ghost use Rattle.typelib.specs.Header.{library};
 
 // The GUID at an offset.
 pub(crate) fn after_guid(s: &[u8], lib: &Numbers, offset: u32, to: usize) -> usize

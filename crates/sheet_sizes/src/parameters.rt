@@ -8,18 +8,12 @@ use member_records::func::FuncRecord;
 use records::answer::I32Answer;
 use sheet_trees::names::Names;
 use typelib::Numbers;
-ghost use mathlib.Core.Path.{_≡_};
-ghost use Rattle.records.specs.Answer.{value, map};
 ghost use Rattle.records.specs.Told.{toldI32};
-ghost use Rattle.cursors.specs.Cursors.{paramStep};
-ghost use Rattle.description.specs.Format.{encode, opt, list};
-ghost use Rattle.description.specs.Sheet.{edition-one, u16, constant, parameter};
-ghost use Rattle.describe.specs.Values.{all, numbered};
-ghost use Rattle.describe.specs.Members.{yields, constantBy, parameterOf, parametersOf};
-ghost use Rattle.sheet_members.specs.Lists.{layAll};
 ghost use Rattle.sheet_members.specs.Room.{Room};
 ghost use Rattle.sheet_trees.specs.Names.{Near};
 ghost use Rattle.sheet_sizes.specs.Measured.{Measured};
+ghost use Rattle.sheet_members.specs.Emitted.{constantByEmitted, parameterEmitted, parametersEmitted, parametersFrom};
+ghost use Rattle.typelib.specs.Header.{library};
 
 // The parameters of a function: their count, and each.
 pub(crate) fn after_parameters(

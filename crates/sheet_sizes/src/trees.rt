@@ -8,16 +8,9 @@ use typelib::descriptors;
 use typelib::descriptors::PairAnswer;
 use util::NEGATIVE;
 ghost use mathlib.Core.List.{[]};
-ghost use Rattle.records.specs.Answer.{map};
-ghost use Rattle.records.specs.Record.{bitsOf};
-ghost use Rattle.typelib.specs.Tables.{lent};
-ghost use Rattle.typelib.specs.Descriptors.{descriptionOf, typeDescription};
-ghost use Rattle.description.specs.Format.{encode};
-ghost use Rattle.description.specs.Sheet.{edition-one, tree};
-ghost use Rattle.describe.specs.Trees.{treeOf};
-ghost use Rattle.emit.specs.Emit.{put};
-ghost use Rattle.sheet_trees.specs.Parts.{Levelled, toldInner};
 ghost use Rattle.sheet_sizes.specs.Measured.{Measured};
+ghost use Rattle.sheet_trees.specs.Emitted.{DescriptorPut, FieldPut, treeEmitted};
+ghost use Rattle.typelib.specs.Header.{library};
 
 // The most descriptions that a tree nests.
 const LEVELS: usize = 32;

@@ -10,18 +10,10 @@ use records::typeinfo::TypeInfoEntry;
 use sheet_trees::names::Names;
 use typelib::Numbers;
 use typelib::typeinfos;
-ghost use mathlib.Core.Path.{_≡_};
-ghost use Rattle.records.specs.Answer.{value, map};
-ghost use Rattle.cursors.specs.Cursors.{varStep};
-ghost use Rattle.description.specs.Format.{encode, list};
-ghost use Rattle.description.specs.Description.{isConstant};
-ghost use Rattle.description.specs.Sheet.{edition-one, u16, variable};
-ghost use Rattle.describe.specs.Values.{all, numbered};
-ghost use Rattle.describe.specs.Members.{yields, valueWith, variableOf, variablesOf};
-ghost use Rattle.sheet_members.specs.Lists.{layAll};
-ghost use Rattle.sheet_members.specs.Words.{valueBytes};
 ghost use Rattle.sheet_trees.specs.Names.{Near};
 ghost use Rattle.sheet_sizes.specs.Measured.{Measured};
+ghost use Rattle.sheet_members.specs.Emitted.{valueEmitted, variableEmitted, variablesEmitted, variablesFrom};
+ghost use Rattle.typelib.specs.Header.{library};
 
 // The variables of a type: their count, and each.
 pub(crate) fn after_variables(s: &[u8], lib: &Numbers, ti: TypeInfoEntry, to: usize) -> usize

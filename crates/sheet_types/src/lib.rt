@@ -7,13 +7,10 @@ use typelib::Numbers;
 use typelib::TypeInfoIndex;
 use typelib::typeinfos;
 use typelib::typeinfos::TypeInfoAnswer;
-ghost use mathlib.Core.Path.{_≡_};
-ghost use Rattle.records.specs.Answer.{value, map};
-ghost use Rattle.description.specs.Format.{encode};
-ghost use Rattle.description.specs.Sheet.{edition-one, typeInfo};
-ghost use Rattle.describe.specs.Types.{typeAt, typeOf};
-ghost use Rattle.emit.specs.Emit.{Emitted, put};
-ghost use Rattle.sheet_bases.specs.Types.{headBytes, namesBytes};
+ghost use Rattle.records.specs.Answer.{value};
+ghost use Rattle.sheet_bases.specs.Types.{headBytes, namesBytes, typeAtEmitted, typeEmitted};
+ghost use Rattle.emit.specs.Emit.{Emits};
+ghost use Rattle.typelib.specs.Header.{library};
 
 // Type `index` of the library; 6, 7 or 8 where there is none.
 pub fn put_type_of(s: &[u8], lib: &Numbers, index: TypeInfoIndex, out: &mut [u8], to: usize) -> usize

@@ -6,8 +6,8 @@ use borrow.Author.Needs.{needs}
 use Rattle.sheet_bases.proofs.put_chain.Statement.{statement}
 use Rattle.sheet_bases.proofs.put_chain.Tie as tie
 
-impl-types-requires : tie.Need-impl-types-requires
-impl-types-requires c κs = search needs
+impl-types-at-requires : tie.Need-impl-types-at-requires
+impl-types-at-requires c κs = search needs
 
 enum-known-cursor : tie.Need-enum-known-cursor
 enum-known-cursor c = search needs
@@ -28,16 +28,16 @@ same-length : tie.Need-same-length
 same-length c = search needs
 
 returns : tie.Need-returns
-returns c = known (chain-is _ _ _ _ (c .before .before .before .before .before .before .before .before .impl-types .ensures) (ap toldImplTypes (c .before .before .before .before .before .before .cursor .given .1))) (c .before .before .put-walked .ensures)
+returns c = known (chain-is _ _ _ _ (c .before .before .before .before .before .before .before .before .impl-types-at .ensures) (ap toldImplTypes (c .before .before .before .before .before .before .cursor .given .1))) (c .before .before .put-walked .ensures)
 
 returns-2 : tie.Need-returns-2
-returns-2 c = known (chain-refused _ _ _ _ (c .before .before .before .before .impl-types .ensures) (ap toldImplTypes (c .before .before .n .given .1))) (c .put-refusal .ensures _)
+returns-2 c = known (chain-refused _ _ _ _ (c .before .before .before .before .impl-types-at .ensures) (ap toldImplTypes (c .before .before .n .given .1))) (c .put-refusal .ensures _)
 
 pub put-chain-spec : {M : Type 1} → statement M
 put-chain-spec =
     tie.close
     (tie.spec
-    impl-types-requires
+    impl-types-at-requires
     enum-known-cursor
     walk-requires
     put-walked-requires

@@ -1,11 +1,9 @@
+use Rattle.sheet_trees.specs.Emitted.{referenceEmitted}
+use Rattle.typelib.specs.Header.{library}
 use Rattle.sheet_trees.proofs.PartLaws.{here-referred}
 use mathlib.Core.Path.{_≡_, refl, _∙_}
 use mathlib.Core.Logic.{⊎-elim}
 use native.Mathlib.Omega.{arith}
-use Rattle.records.specs.Answer.{value}
-use Rattle.description.specs.Format.{encode}
-use Rattle.description.specs.Sheet.{edition-one, reference}
-use Rattle.describe.specs.References.{referenceOf}
 use Rattle.emit.specs.Emit.{Emitted, put}
 use Rattle.emit.specs.Laws.{known, join}
 use Rattle.sheet_bases.proofs.BaseLaws.{link-is}
@@ -29,9 +27,9 @@ copy-u32-requires : tie.Need-copy-u32-requires
 copy-u32-requires c κs = search needs
 
 -- the reference, by either way
-referred : (c : tie.Joined1) → Emitted (value (encode (reference edition-one (c .before .before .before .before .before .args .lib .count)) (referenceOf (c .before .before .before .before .before .args .s .now) (c .before .before .before .before .before .args .lib) (c .before .before .word-at .result)))) (put (c .before .before .before .before .before .args .to)) (c .before .before .before .before .before .args .out .now) (put (c .if1 .t)) (c .if1 .out)
+referred : (c : tie.Joined1) → Emitted (referenceEmitted (c .before .before .before .before .before .args .s .now) (library (c .before .before .before .before .before .args .lib .now)) (c .before .before .word-at .result)) (put (c .before .before .before .before .before .args .to)) (c .before .before .before .before .before .args .out .now) (put (c .if1 .t)) (c .if1 .out)
 referred c =
-    ⊎-elim (λ w. rw (w .5, w .6) (known (here-referred _ _ _ (omega (arith, c .before .bits .ensures, w .0 .taken))) (w .2 .ensures))) (λ w. rw (w .5, w .6) (w .2 .ensures))
+    ⊎-elim (λ w. rw (w .5, w .6) (known (here-referred _ (library (c .before .before .before .before .before .args .lib .now)) _ (omega (arith, c .before .bits .ensures, w .0 .taken))) (w .2 .ensures))) (λ w. rw (w .5, w .6) (w .2 .ensures))
     (c .if1 .came)
 
 same-length : tie.Need-same-length
@@ -39,7 +37,7 @@ same-length c = c .before .before .copy-u32 .ensures .keeps ∙ referred (c .bef
 
 returns : tie.Need-returns
 returns c =
-    known (link-is _ _ (record { at = c .before .before .before .before .before .before .before .before .before .args .link .at; len = c .before .before .before .before .before .before .before .before .before .args .link .len }) (c .before .before .before .before .before .before .word-at .ensures))
+    known (link-is _ (library (c .before .before .before .before .before .before .before .before .before .args .lib .now)) (record { at = c .before .before .before .before .before .before .before .before .before .args .link .at; len = c .before .before .before .before .before .before .before .before .before .args .link .len }) (c .before .before .before .before .before .before .word-at .ensures))
     (join (referred (c .before .before .before .before)) (c .before .before .copy-u32 .ensures))
 
 pub put-link-spec : {M : Type 1} → statement M

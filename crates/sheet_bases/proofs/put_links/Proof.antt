@@ -1,3 +1,4 @@
+use Rattle.typelib.specs.Header.{library}
 use Rattle.sheet_bases.proofs.BaseLaws.{At, at-start, at-next, at-place, at-end, links-more, links-none}
 use Rattle.sheet_bases.specs.Bases.{linksBytes}
 use Rattle.emit.specs.Laws.{Left, left-all, left-less, left-none}
@@ -12,7 +13,7 @@ use Rattle.sheet_bases.proofs.put_links.Statement.{statement}
 use Rattle.sheet_bases.proofs.put_links.Tie as tie
 
 abbrev Inv-loop : tie.InvT-loop
-Inv-loop s lib count out₀ to t₀ c₀ k₀ out t c k = Left (value (linksBytes s lib c₀ count 0)) (put t₀) out₀ (value (linksBytes s lib c₀ count k)) (put t) out × At s lib c₀ count k c
+Inv-loop s lib count out₀ to t₀ c₀ k₀ out t c k = Left (value (linksBytes s (library lib) c₀ count 0)) (put t₀) out₀ (value (linksBytes s (library lib) c₀ count k)) (put t) out × At s (library lib) c₀ count k c
 
 abbrev μ-loop : tie.MeasureT-loop
 μ-loop s lib count out₀ to t₀ c₀ k₀ out t c k = count - k

@@ -6,8 +6,8 @@ use borrow.Author.Needs.{needs}
 use Rattle.sheet_sizes.proofs.after_type_of.Statement.{statement}
 use Rattle.sheet_sizes.proofs.after_type_of.Tie as tie
 
-typeinfo-requires : tie.Need-typeinfo-requires
-typeinfo-requires c κs = search needs
+typeinfo-at-requires : tie.Need-typeinfo-at-requires
+typeinfo-at-requires c κs = search needs
 
 enum-known-ti : tie.Need-enum-known-ti
 enum-known-ti c = search needs
@@ -22,16 +22,16 @@ put-refusal-requires : tie.Need-put-refusal-requires
 put-refusal-requires c κs = search needs
 
 returns : tie.Need-returns
-returns c = known (type-found _ _ _ _ (c .before .before .before .before .typeinfo .ensures) (ap toldTypeInfo (c .before .before .ti .given .1))) (c .after-type .ensures)
+returns c = known (type-found _ _ _ _ (c .before .before .before .before .typeinfo-at .ensures) (ap toldTypeInfo (c .before .before .ti .given .1))) (c .after-type .ensures)
 
 returns-2 : tie.Need-returns-2
-returns-2 c = known (type-missing _ _ _ _ (c .before .before .before .before .typeinfo .ensures) (ap toldTypeInfo (c .before .before .n .given .1))) (c .put-refusal .ensures _)
+returns-2 c = known (type-missing _ _ _ _ (c .before .before .before .before .typeinfo-at .ensures) (ap toldTypeInfo (c .before .before .n .given .1))) (c .put-refusal .ensures _)
 
 pub after-type-of-spec : {M : Type 1} → statement M
 after-type-of-spec =
     tie.close
     (tie.spec
-    typeinfo-requires
+    typeinfo-at-requires
     enum-known-ti
     after-type-requires
     enum-known-n

@@ -1,3 +1,4 @@
+use Rattle.typelib.specs.Header.{library, typeCount}
 use borrow.Author.Needs.{needs}
 use native.Mathlib.Omega.{arith}
 use Prim.Native.Nat.{_-_}
@@ -10,10 +11,13 @@ use Rattle.sheet_sizes.proofs.types.Statement.{statement}
 use Rattle.sheet_sizes.proofs.types.Tie as tie
 
 abbrev Inv-loop : tie.InvT-loop
-Inv-loop s lib to count t₀ i₀ t i = Left (bodies s lib (lib .count - 0) 0) (put t₀) [] (bodies s lib (lib .count - i) i) (put t) [] × (count ≡ lib .count)
+Inv-loop s lib to count t₀ i₀ t i = Left (bodies s (library lib) (typeCount (library lib) - 0) 0) (put t₀) [] (bodies s (library lib) (typeCount (library lib) - i) i) (put t) [] × (count ≡ typeCount (library lib))
 
 abbrev μ-loop : tie.MeasureT-loop
 μ-loop s lib to count t₀ i₀ t i = count - i
+
+count-requires : tie.Need-count-requires Inv-loop μ-loop
+count-requires c κs = search needs
 
 cast-count : tie.Need-cast-count Inv-loop μ-loop
 cast-count c = search needs
@@ -22,7 +26,7 @@ loop-holds : tie.Need-loop-holds Inv-loop μ-loop
 loop-holds c = (left-all, search needs)
 
 returns : tie.Need-returns Inv-loop μ-loop
-returns c = known (bodies-all _ _ _) (c .before .before .loop .inv .0 .finish _ _ (refused-stays (c .if1 .taken)))
+returns c = known (bodies-all _ (library (c .before .before .before .before .before .args .lib .now)) _) (c .before .before .loop .inv .0 .finish _ _ (refused-stays (c .if1 .taken)))
 
 after-type-of-requires : tie.Need-after-type-of-requires Inv-loop μ-loop
 after-type-of-requires c κs = search needs
@@ -37,7 +41,7 @@ loop-again : tie.Need-loop-again Inv-loop μ-loop
 loop-again c = (left-less (c .before .before .before .loop .inv .0) (c .after-type-of .ensures) (bodies-more _ _ _ _ (omega (arith, c .before .before .loop-test .taken, c .before .before .before .loop .inv .1))), c .before .before .before .loop .inv .1)
 
 returns-2 : tie.Need-returns-2 Inv-loop μ-loop
-returns-2 c = known (bodies-all _ _ _) (left-none (c .before .loop .inv .0) (bodies-none _ _ _ _ (omega (arith, c .loop-test .left, c .before .loop .inv .1))))
+returns-2 c = known (bodies-all _ (library (c .before .before .before .before .args .lib .now)) _) (left-none (c .before .loop .inv .0) (bodies-none _ (library (c .before .before .before .before .args .lib .now)) _ _ (omega (arith, c .loop-test .left, c .before .loop .inv .1))))
 
 pub types-spec : {M : Type 1} → statement M
 types-spec =
@@ -45,6 +49,7 @@ types-spec =
     (tie.spec
     Inv-loop
     μ-loop
+    count-requires
     cast-count
     loop-holds
     returns

@@ -1,3 +1,4 @@
+use Rattle.typelib.specs.Header.{library, typeCount}
 use borrow.Author.Needs.{needs}
 use native.Mathlib.Omega.{arith}
 use lib.ListN.{length}
@@ -10,7 +11,7 @@ use Rattle.sheet.proofs.contents.put_types.Statement.{statement}
 use Rattle.sheet.proofs.contents.put_types.Tie as tie
 
 abbrev Inv-loop : tie.InvT-loop
-Inv-loop s lib most out₀ to count t₀ i₀ out t i = LeftFrom s lib (lib .count) (put t₀) out₀ i (put t) out × (count ≡ lib .count) × (length out ≡ length out₀)
+Inv-loop s lib most out₀ to count t₀ i₀ out t i = LeftFrom s (library lib) (typeCount (library lib)) (put t₀) out₀ i (put t) out × (count ≡ typeCount (library lib)) × (length out ≡ length out₀)
 
 abbrev μ-loop : tie.MeasureT-loop
 μ-loop s lib most out₀ to count t₀ i₀ out t i = count - i

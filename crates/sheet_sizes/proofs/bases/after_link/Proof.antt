@@ -1,10 +1,9 @@
+use Rattle.sheet_trees.specs.Emitted.{referenceEmitted}
+use Rattle.typelib.specs.Header.{library}
 use Rattle.sheet_trees.proofs.PartLaws.{here-referred}
 use mathlib.Core.Logic.{⊎-elim}
 use native.Mathlib.Omega.{arith}
-use Rattle.records.specs.Answer.{value}
-use Rattle.description.specs.Format.{encode, leBytes, length-leBytes}
-use Rattle.description.specs.Sheet.{edition-one, reference}
-use Rattle.describe.specs.References.{referenceOf}
+use Rattle.description.specs.Format.{leBytes, length-leBytes}
 use Rattle.emit.specs.Laws.{known, join}
 use Rattle.sheet_bases.proofs.BaseLaws.{link-is}
 use Rattle.sheet_sizes.specs.Measured.{Measured, measured}
@@ -34,14 +33,14 @@ ahead-requires : tie.Need-ahead-requires
 ahead-requires c κs = search needs
 
 -- the reference, by either way
-referred : (c : tie.Joined1) → Measured (value (encode (reference edition-one (c .before .before .before .before .args .lib .count)) (referenceOf (c .before .before .before .before .args .s .now) (c .before .before .before .before .args .lib) (c .before .before .word-at .result)))) (c .before .before .before .before .args .to) (c .if1 .t)
+referred : (c : tie.Joined1) → Measured (referenceEmitted (c .before .before .before .before .args .s .now) (library (c .before .before .before .before .args .lib .now)) (c .before .before .word-at .result)) (c .before .before .before .before .args .to) (c .if1 .t)
 referred c =
-    ⊎-elim (λ w. rw (w .4) (measured (known (here-referred _ _ _ (omega (arith, c .before .bits .ensures, w .0 .taken))) (w .2 .ensures) .moves))) (λ w. rw (w .4) (measured (w .2 .ensures .moves)))
+    ⊎-elim (λ w. rw (w .4) (measured (known (here-referred _ (library (c .before .before .before .before .args .lib .now)) _ (omega (arith, c .before .bits .ensures, w .0 .taken))) (w .2 .ensures) .moves))) (λ w. rw (w .4) (measured (w .2 .ensures .moves)))
     (c .if1 .came)
 
 returns : tie.Need-returns
 returns c =
-    known (link-is _ _ (record { at = c .before .before .before .before .before .args .link .at; len = c .before .before .before .before .before .args .link .len }) (c .before .before .before .word-at .ensures))
+    known (link-is _ (library (c .before .before .before .before .before .args .lib .now)) (record { at = c .before .before .before .before .before .args .link .at; len = c .before .before .before .before .before .args .link .len }) (c .before .before .before .word-at .ensures))
     (join (referred (c .before)) (c .ahead .ensures (leBytes 4 _) (length-leBytes 4 _)))
 
 pub after-link-spec : {M : Type 1} → statement M

@@ -1,3 +1,4 @@
+use Rattle.typelib.specs.Header.{library}
 use Rattle.sheet_sizes.proofs.ChainLaws.{Along, along, along-more, along-place, along-inside, along-round, along-last, links-last}
 use Rattle.sheet_bases.proofs.BaseLaws.{links-none, walked-is, walked-refused}
 use Rattle.sheet_bases.specs.Bases.{linksBytes}
@@ -18,7 +19,7 @@ use Rattle.sheet_sizes.proofs.bases.after_links.Statement.{statement}
 use Rattle.sheet_sizes.proofs.bases.after_links.Tie as tie
 
 abbrev Inv-loop : tie.InvT-loop
-Inv-loop s lib to t₀ c₀ n₀ t c n = Emitted (value (linksBytes s lib c₀ n 0)) (put t₀) [] (put t) [] × Along s c₀ n c
+Inv-loop s lib to t₀ c₀ n₀ t c n = Emitted (value (linksBytes s (library lib) c₀ n 0)) (put t₀) [] (put t) [] × Along s c₀ n c
 
 abbrev μ-loop : tie.MeasureT-loop
 μ-loop s lib to t₀ c₀ n₀ t c n = length s - 15 - n

@@ -1,3 +1,4 @@
+use Rattle.typelib.specs.Header.{library, typeCount}
 use borrow.Author.Needs.{needs}
 use native.Mathlib.Omega.{arith}
 use Prim.Native.Nat.{_+_, _*_, _^_, _<_}
@@ -24,7 +25,7 @@ use Rattle.sheet_sizes.proofs.functions.after_each.Statement.{statement
 use Rattle.sheet_sizes.proofs.functions.after_each.Tie as tie
 
 abbrev Inv-loop : tie.InvT-loop
-Inv-loop s lib to rows names t₀ c₀ i₀ t c i = ((ti : TypeInfoEntry) → FuncRows s ti (rows .memids) (rows .names) → Left (layAll (function edition-one (lib .count)) (numbered (functionOf s lib ti) 0 (yields (funcStep s) (c₀ .remaining) c₀))) (put t₀) [] (layAll (function edition-one (lib .count)) (numbered (functionOf s lib ti) i (yields (funcStep s) (c .remaining) c))) (put t) []) × (i + c .remaining ≡ c₀ .remaining) × (c₀ .remaining < 2 ^ 64)
+Inv-loop s lib to rows names t₀ c₀ i₀ t c i = ((ti : TypeInfoEntry) → FuncRows s ti (rows .memids) (rows .names) → Left (layAll (function edition-one (typeCount (library lib))) (numbered (functionOf s (library lib) ti) 0 (yields (funcStep s) (c₀ .remaining) c₀))) (put t₀) [] (layAll (function edition-one (typeCount (library lib))) (numbered (functionOf s (library lib) ti) i (yields (funcStep s) (c .remaining) c))) (put t) []) × (i + c .remaining ≡ c₀ .remaining) × (c₀ .remaining < 2 ^ 64)
 
 abbrev μ-loop : tie.MeasureT-loop
 μ-loop s lib to rows names t₀ c₀ i₀ t c i = c .remaining

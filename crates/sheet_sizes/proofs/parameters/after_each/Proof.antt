@@ -1,3 +1,4 @@
+use Rattle.typelib.specs.Header.{library}
 use mathlib.Core.List.{[]}
 use Prim.Native.Nat.{_-_}
 use native.Mathlib.Omega.{arith}
@@ -8,7 +9,7 @@ use Rattle.sheet_sizes.proofs.parameters.after_each.Statement.{statemen
 use Rattle.sheet_sizes.proofs.parameters.after_each.Tie as tie
 
 abbrev Inv-loop : tie.InvT-loop
-Inv-loop s lib names func cursor to t₀ i₀ t i = Left (laidFrom s cursor lib func 0) (put t₀) [] (laidFrom s cursor lib func i) (put t) []
+Inv-loop s lib names func cursor to t₀ i₀ t i = Left (laidFrom s cursor (library lib) func 0) (put t₀) [] (laidFrom s cursor (library lib) func i) (put t) []
 
 abbrev μ-loop : tie.MeasureT-loop
 μ-loop s lib names func cursor to t₀ i₀ t i = cursor .remaining - i
@@ -35,7 +36,7 @@ loop-again : tie.Need-loop-again Inv-loop μ-loop
 loop-again c = left-less (c .before .before .before .before .loop .inv) (c .after-parameter .ensures) (laid-one _ _ _ _ _ (c .before .before .before .before .before .before .pre .1) (c .before .before .if1 .taken))
 
 returns : tie.Need-returns Inv-loop μ-loop
-returns c = known (laid-all _ _ _ _) (left-none (c .before .before .loop .inv) (laid-end _ _ _ _ _ (omega arith)))
+returns c = known (laid-all (c .before .before .before .before .args .s .now) (c .before .before .before .before .args .cursor) (library (c .before .before .before .before .args .lib .now)) (c .before .before .before .before .args .func)) (left-none (c .before .before .loop .inv) (laid-end (c .before .before .before .before .args .s .now) (c .before .before .before .before .args .cursor) (library (c .before .before .before .before .args .lib .now)) (c .before .before .before .before .args .func) _ (omega arith)))
 
 pub after-each-spec : {M : Type 1} → statement M
 after-each-spec =

@@ -1,3 +1,4 @@
+use Rattle.typelib.specs.Header.{library}
 use Rattle.typelib.specs.Descriptors.{descriptionOf}
 use Rattle.sheet_sizes.specs.Measured.{measured}
 use Rattle.sheet_trees.proofs.TreeLaws.{level-as, level-pointer, level-safe-array}
@@ -25,11 +26,11 @@ put-descriptor-requires c κs = search needs
 
 returns : tie.Need-returns
 unfolding descriptionOf
-returns c = level-as _ _ (description-case 26 (c .before .before .before .before .args .s .now) (c .before .before .before .before .args .lib) _ (c .before .before .before .before .args .second) _ (sym (c .before .before .bits .ensures) ∙ c .before .match .keys1) refl) (level-pointer _ _ (c .before .before .before .before .fits .second) (c .ahead .ensures (2 ∷ []) refl, refl))
+returns c = level-as _ _ (description-case 26 (c .before .before .before .before .args .s .now) (library (c .before .before .before .before .args .lib .now)) _ (c .before .before .before .before .args .second) _ (sym (c .before .before .bits .ensures) ∙ c .before .match .keys1) refl) (level-pointer _ _ (c .before .before .before .before .fits .second) (c .ahead .ensures (2 ∷ []) refl, refl))
 
 returns-2 : tie.Need-returns-2
 unfolding descriptionOf
-returns-2 c = level-as _ _ (description-case 27 (c .before .before .before .before .args .s .now) (c .before .before .before .before .args .lib) _ (c .before .before .before .before .args .second) _ (sym (c .before .before .bits .ensures) ∙ c .before .match .keys2) refl) (level-safe-array _ _ (c .before .before .before .before .fits .second) (c .ahead2 .ensures (3 ∷ []) refl, refl))
+returns-2 c = level-as _ _ (description-case 27 (c .before .before .before .before .args .s .now) (library (c .before .before .before .before .args .lib .now)) _ (c .before .before .before .before .args .second) _ (sym (c .before .before .bits .ensures) ∙ c .before .match .keys2) refl) (level-safe-array _ _ (c .before .before .before .before .fits .second) (c .ahead2 .ensures (3 ∷ []) refl, refl))
 
 returns-3 : tie.Need-returns-3
 returns-3 c = (measured (c .before .put-descriptor .ensures .0 .moves), c .before .put-descriptor .ensures .1)

@@ -1,3 +1,4 @@
+use Rattle.typelib.specs.Header.{library, typeCount}
 use Rattle.sheet_trees.proofs.TreeLaws.{too-deep, leaf-laid, branch-laid, whole-tree}
 use Rattle.emit.specs.Laws.{Left, left-all, known}
 use Rattle.emit.specs.Emit.{put}
@@ -13,7 +14,7 @@ use Rattle.sheet_sizes.proofs.trees.after_nested.Statement.{statement}
 use Rattle.sheet_sizes.proofs.trees.after_nested.Tie as tie
 
 abbrev Inv-loop : tie.InvT-loop
-Inv-loop s lib field to t₀ f₀ levels₀ t f levels = Left (map (encode (nested edition-one (lib .count) 32)) (nestedOf s lib 32 field)) (put to) [] (map (encode (nested edition-one (lib .count) levels)) (nestedOf s lib levels f)) (put t) []
+Inv-loop s lib field to t₀ f₀ levels₀ t f levels = Left (map (encode (nested edition-one (typeCount (library lib)) 32)) (nestedOf s (library lib) 32 field)) (put to) [] (map (encode (nested edition-one (typeCount (library lib)) levels)) (nestedOf s (library lib) levels f)) (put t) []
 
 abbrev μ-loop : tie.MeasureT-loop
 μ-loop s lib field to t₀ f₀ levels₀ t f levels = levels

@@ -1,3 +1,4 @@
+use Rattle.typelib.specs.Header.{library, typeCount}
 use borrow.Author.Needs.{needs}
 use native.Mathlib.Omega.{arith}
 use Prim.Native.Nat.{_+_, _^_, _<_}
@@ -18,7 +19,7 @@ use Rattle.sheet_sizes.proofs.variables.after_each.Statement.{statement
 use Rattle.sheet_sizes.proofs.variables.after_each.Tie as tie
 
 abbrev Inv-loop : tie.InvT-loop
-Inv-loop s lib ti to names t₀ c₀ i₀ t c i = Left (layAll (variable edition-one (lib .count)) (numbered (variableOf s lib ti) 0 (yields (varStep s) (c₀ .remaining) c₀))) (put t₀) [] (layAll (variable edition-one (lib .count)) (numbered (variableOf s lib ti) i (yields (varStep s) (c .remaining) c))) (put t) [] × (i + c .remaining ≡ c₀ .remaining) × (c₀ .remaining < 2 ^ 64)
+Inv-loop s lib ti to names t₀ c₀ i₀ t c i = Left (layAll (variable edition-one (typeCount (library lib))) (numbered (variableOf s (library lib) ti) 0 (yields (varStep s) (c₀ .remaining) c₀))) (put t₀) [] (layAll (variable edition-one (typeCount (library lib))) (numbered (variableOf s (library lib) ti) i (yields (varStep s) (c .remaining) c))) (put t) [] × (i + c .remaining ≡ c₀ .remaining) × (c₀ .remaining < 2 ^ 64)
 
 abbrev μ-loop : tie.MeasureT-loop
 μ-loop s lib ti to names t₀ c₀ i₀ t c i = c .remaining
