@@ -10,6 +10,7 @@ use Rattle.records.specs.Answer.{Answer, value, refused, map, bind}
 use Rattle.records.specs.Record.{limit}
 use Rattle.description.specs.Description.{Bytes}
 use Rattle.description.specs.Sheet.{Edition, sheetBytes}
+use Rattle.describe.specs.Values.{Octets}
 use Rattle.describe.specs.Describe.{describe}
 
 -- the bytes, or 12 where they are more than the output's `room` or than 16,777,216
@@ -25,7 +26,9 @@ unfoldable pub written : List ℕ → Answer Bytes → List ℕ
 written o (value bs) = bs ++ drop (length bs) o
 written o (refused n) = o
 
--- a call over the library's bytes s and an output that held o: its reply r, how many bytes it wrote, and the output o′ after it
+-- a call over the library's bytes s and an output that held o: its reply r, how many bytes it wrote, and the output o′ after it; the
+-- bytes that it was lent are octets
 pub record Call (e : Edition) (s o : List ℕ) (r : Answer ℕ) (o′ : List ℕ) : Type 0 where
   pub replies : r ≡ map length (sheetOf e s (length o))
   pub leaves : o′ ≡ written o (sheetOf e s (length o))
+  pub octets : Octets s

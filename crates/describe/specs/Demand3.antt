@@ -19,7 +19,6 @@ use Rattle.description.specs.Sheet.{Edition, edition-one, sheet, sheetBytes}
 use Rattle.description.specs.Laws.{sheets-same}
 use Rattle.describe.specs.Describe.{describe}
 use Rattle.describe.specs.Call.{within, sheetOf, written, Call}
-use Rattle.describe.specs.FieldLaws.{Octets}
 use Rattle.describe.specs.Fit.{Roomy, edition-one-roomy, described-fits}
 
 -- ---- the sheet of a description
@@ -103,15 +102,15 @@ module _ {e : Edition} {s o o′ : List ℕ} {r : Answer ℕ} (c : Call e s o r 
 -- ---- two calls
 
 module _ (e : Edition) (roomy : Roomy e) {s₁ s₂ o₁ o₂ o₁′ o₂′ : List ℕ} {r₁ r₂ : Answer ℕ} {n₁ n₂ : ℕ}
-    (octets₁ : Octets s₁) (octets₂ : Octets s₂) (c₁ : Call e s₁ o₁ r₁ o₁′) (c₂ : Call e s₂ o₂ r₂ o₂′) (h₁ : r₁ ≡ value n₁) (h₂ : r₂ ≡ value n₂) where
+    (c₁ : Call e s₁ o₁ r₁ o₁′) (c₂ : Call e s₂ o₂ r₂ o₂′) (h₁ : r₁ ≡ value n₁) (h₂ : r₂ ≡ value n₂) where
   pub demand-3-in : ((n₁ ≡ n₂) × (take n₁ o₁′ ≡ take n₂ o₂′)) ↔ (describe e s₁ ≡ describe e s₂)
   demand-3-in =
       let x : Success e s₁ o₁ n₁ o₁′ = success c₁ h₁ in
       let y : Success e s₂ o₂ n₂ o₂′ = success c₂ h₂ in
       let d : Library = x .description in
       let d′ : Library = y .description in
-      let f : Fits (sheet e) d = described-fits e roomy s₁ octets₁ d (x .is) (omega (arith, x .size, x .most)) in
-      let f′ : Fits (sheet e) d′ = described-fits e roomy s₂ octets₂ d′ (y .is) (omega (arith, y .size, y .most)) in (
+      let f : Fits (sheet e) d = described-fits e roomy s₁ (c₁ .octets) d (x .is) (omega (arith, x .size, x .most)) in
+      let f′ : Fits (sheet e) d′ = described-fits e roomy s₂ (c₂ .octets) d′ (y .is) (omega (arith, y .size, y .most)) in (
         λ p. x .is ∙ ap value (sheets-same e f f′ .0 (sym (x .size) ∙ p .0 ∙ y .size, sym (x .front) ∙ p .1 ∙ y .front)) ∙ sym (y .is),
         λ p.
             let q : d ≡ d′ = cc in
@@ -119,7 +118,7 @@ module _ (e : Edition) (roomy : Roomy e) {s₁ s₂ o₁ o₂ o₁′ o₂′ : 
             (x .size ∙ z .0 ∙ sym (y .size), x .front ∙ z .1 ∙ sym (y .front)),
       )
 
-pub demand-3 : {s₁ s₂ o₁ o₂ o₁′ o₂′ : List ℕ} {r₁ r₂ : Answer ℕ} {n₁ n₂ : ℕ} → Octets s₁ → Octets s₂
+pub demand-3 : {s₁ s₂ o₁ o₂ o₁′ o₂′ : List ℕ} {r₁ r₂ : Answer ℕ} {n₁ n₂ : ℕ}
     → Call edition-one s₁ o₁ r₁ o₁′ → Call edition-one s₂ o₂ r₂ o₂′ → r₁ ≡ value n₁ → r₂ ≡ value n₂
     → ((n₁ ≡ n₂) × (take n₁ o₁′ ≡ take n₂ o₂′)) ↔ (describe edition-one s₁ ≡ describe edition-one s₂)
 demand-3 = demand-3-in edition-one edition-one-roomy

@@ -16,11 +16,7 @@ use Rattle.records.specs.Answer.{value, map}
 use Rattle.records.specs.Layout.{Layout, sizeOf, offsetOf, widthOf}
 use Rattle.records.specs.Record.{fieldPlace, fieldAt, field}
 use Rattle.records.specs.RecordLaws.{held-inside, Holds, place-some}
-use Rattle.describe.specs.Values.{fieldOf}
-
--- each byte is below 256
-abbrev pub Octets : List ℕ → Type 0
-Octets s = (i : ℕ) → getD s i 0 < 256
+use Rattle.describe.specs.Values.{Octets, fieldOf}
 
 -- ---- what the reading answers
 

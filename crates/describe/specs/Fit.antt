@@ -17,10 +17,10 @@ use Rattle.description.specs.Description.{Library}
 use Rattle.description.specs.Sheet.{Edition, edition-one, typeInfo, sheet, sheetBytes}
 use Rattle.description.specs.Sheet as sheet
 use Rattle.description.specs.Fit.{Fitting, fitting-fits}
-use Rattle.describe.specs.Values.{fieldOf}
+use Rattle.describe.specs.Values.{Octets, fieldOf}
 use Rattle.describe.specs.Types.{typesFrom}
 use Rattle.describe.specs.Describe.{headerOf, describeAs, describe}
-use Rattle.describe.specs.FieldLaws.{Octets, field-lt}
+use Rattle.describe.specs.FieldLaws.{field-lt}
 use Rattle.describe.specs.Answers.{IfValue, refuses, anything, answers-bind, answers-map, answers-all, answers-value}
 use Rattle.describe.specs.FitValues.{guid-fits, name-fits}
 use Rattle.describe.specs.FitTypes.{types-length, types-fit}

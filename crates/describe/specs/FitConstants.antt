@@ -33,7 +33,7 @@ use Rattle.description.specs.Description.{Shape, shapes, shapeOf}
 use Rattle.description.specs.Sheet.{u32, constant}
 use Rattle.description.specs.Sheet as sheet
 use Rattle.description.specs.Fit.{bit-fits, opt-fits}
-use Rattle.describe.specs.FieldLaws.{Octets}
+use Rattle.describe.specs.Values.{Octets}
 use Rattle.describe.specs.Answers.{IfValue, gives, refuses, told, anything, answers-bind, answers-map, answers-lent, if-found}
 use Rattle.describe.specs.FitValues.{part-length, part-each, counted-part}
 use Rattle.describe.specs.Constants.{Content, digits, contentOf, valueOf, constantFrom}

@@ -34,9 +34,9 @@ use Rattle.description.specs.Description.{isConstant}
 use Rattle.description.specs.Sheet.{Edition, u16, u32, constant, variableValue, variable, parameter, function}
 use Rattle.description.specs.Format.IfAny.{missing}
 use Rattle.description.specs.Fit.{opt-fits, list-fits}
-use Rattle.describe.specs.Values.{fieldOf, all, numbered}
+use Rattle.describe.specs.Values.{Octets, fieldOf, all, numbered}
 use Rattle.describe.specs.Members.{funcRecords, varRecords, paramRecords, memidBy, hasDefault, constantBy, defaultOf, parameterWith, parameterOf, parametersOf, functionWith, functionOf, functionsOf, valueWith, variableWith, variableOf, variablesOf}
-use Rattle.describe.specs.FieldLaws.{Octets, field-lt}
+use Rattle.describe.specs.FieldLaws.{field-lt}
 use Rattle.describe.specs.Answers.{IfValue, anything, answers-value, answers-bind, answers-map, answers-mono, answers-all, if-found, numbered-each, numbered-length}
 use Rattle.describe.specs.YieldLaws.{yields-most}
 use Rattle.describe.specs.FitValues.{word-fits, name-fits, name-by-fits}

@@ -19,9 +19,9 @@ use Rattle.description.specs.Format.{Fits, opt}
 use Rattle.description.specs.Description.{ownIsGuid}
 use Rattle.description.specs.Sheet.{Edition, file, own, import, reference}
 use Rattle.description.specs.Fit.{opt-fits, bit-fits, unresolved-fits, internal-fits, imported-fits}
-use Rattle.describe.specs.Values.{fieldOf}
+use Rattle.describe.specs.Values.{Octets, fieldOf}
 use Rattle.describe.specs.References.{fileWith, fileAt, fileOf, ownOf, importOf, referenceFrom, referenceOf}
-use Rattle.describe.specs.FieldLaws.{Octets, number-lt, field-lt}
+use Rattle.describe.specs.FieldLaws.{number-lt, field-lt}
 use Rattle.describe.specs.Answers.{IfValue, told, anything, answers-bind, answers-map, answers-value, if-found}
 use Rattle.describe.specs.Cases.{resolved-cases}
 use Rattle.describe.specs.FitValues.{guid-fits, counted-part}

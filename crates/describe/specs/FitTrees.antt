@@ -20,10 +20,10 @@ use Rattle.description.specs.Description.Tree.{pointer, safeArray, cArray}
 use Rattle.description.specs.Sheet.{Edition, u16, dimension, nested, tree}
 use Rattle.description.specs.Fit.{list-fits, nothing-fits, base-fits, pointer-fits, safeArray-fits, cArray-fits}
 use Rattle.description.specs.Fit.{reference-fits as leaf-fits}
-use Rattle.describe.specs.Values.{fieldOf}
+use Rattle.describe.specs.Values.{Octets, fieldOf}
 use Rattle.describe.specs.References.{referenceOf}
 use Rattle.describe.specs.Trees.{dimensionsAt, dimensionsOf, treeFrom, nestedOf, treeOf}
-use Rattle.describe.specs.FieldLaws.{Octets, field-lt}
+use Rattle.describe.specs.FieldLaws.{field-lt}
 use Rattle.describe.specs.Answers.{IfValue, gives, refuses, answers-map, answers-value}
 use Rattle.describe.specs.Cases.{description-cases}
 use Rattle.describe.specs.FitReferences.{reference-fits}

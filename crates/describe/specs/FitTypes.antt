@@ -20,9 +20,9 @@ use Rattle.description.specs.Description.{BaseShape, baseShapeOf}
 use Rattle.description.specs.Description.BaseShape.{absent, parent, implTypes, aliased}
 use Rattle.description.specs.Sheet.{Edition, u32, implType, base, typeInfo}
 use Rattle.description.specs.Fit.{list-fits}
-use Rattle.describe.specs.Values.{fieldOf}
+use Rattle.describe.specs.Values.{Octets, fieldOf}
 use Rattle.describe.specs.Types.{implTypeAt, implTypesAt, baseOf, kindAt, typeWith, typeAt, typeOf, typesFrom}
-use Rattle.describe.specs.FieldLaws.{Octets, field-lt}
+use Rattle.describe.specs.FieldLaws.{field-lt}
 use Rattle.describe.specs.Answers.{IfValue, gives, told, anything, answers-bind, answers-map}
 use Rattle.describe.specs.FitValues.{guid-fits, name-fits}
 use Rattle.describe.specs.FitReferences.{reference-fits}

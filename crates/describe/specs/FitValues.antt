@@ -22,8 +22,7 @@ use Rattle.typelib.specs.TableLaws.{found as found-place}
 use Rattle.description.specs.Format.{Fits, Each, octets, counted, number, opt}
 use Rattle.description.specs.Sheet.{guid, name}
 use Rattle.description.specs.Fit.{opt-fits, counted-fits}
-use Rattle.describe.specs.Values.{bytesIn}
-use Rattle.describe.specs.FieldLaws.{Octets}
+use Rattle.describe.specs.Values.{Octets, bytesIn}
 use Rattle.describe.specs.Answers.{IfValue, told, anything, answers-bind, answers-map, if-found}
 use Rattle.describe.specs.References.{guidOf}
 use Rattle.describe.specs.Members.{nameOf, nameBy}

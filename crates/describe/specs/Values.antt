@@ -2,14 +2,19 @@
 -- Assumes nothing.
 use mathlib.Core.Option.{Option, some, none}
 use mathlib.Core.List.{List, [], _∷_}
-use Prim.Native.Nat.{ℕ, zero, suc, _+_}
+use Prim.Native.Nat.{ℕ, zero, suc, _+_, _<_}
 use Prim.Native.String.{String}
+use lib.ListN.{getD}
 use Rattle.util.specs.Read.{read, orZero}
 use Rattle.records.specs.declared.answer.Place.{Place}
 use Rattle.records.specs.Answer.{Answer, value, refused, map, bind}
 use Rattle.records.specs.Layout.{Layout, offsetOf, widthOf}
 use Rattle.records.specs.Record.{partOf}
 use Rattle.description.specs.Description.{Bytes}
+
+-- each byte is below 256, as it is of every slice of bytes that is lent
+abbrev pub Octets : List ℕ → Type 0
+Octets s = (i : ℕ) → getD s i 0 < 256
 
 -- what a reading found; missing where it refused
 abbrev pub found : {A : Type 0} → Answer A → Option A

@@ -14,6 +14,7 @@ use Rattle.typelib.specs.declared.Parsed.{Parsed}
 use Rattle.typelib.specs.Header.{parseOf, parsed, typeCount}
 use Rattle.description.specs.Description.{Bytes}
 use Rattle.description.specs.Sheet.{edition-one, sheetBytes}
+use Rattle.describe.specs.Values.{Octets}
 use Rattle.describe.specs.Describe.{headerOf, typesOf, describeAs, describe}
 use Rattle.describe.specs.Answers.{answers-refused}
 use Rattle.describe.specs.Refusals.{parse-sound}
@@ -117,29 +118,30 @@ joined-answer : {A : Type 0} (f : A → Bytes) (room : ℕ) (a : Answer A) → b
 joined-answer f room (value d) = refl
 joined-answer f room (refused n) = refl
 
-module _ (s : List ℕ) (p : Parsed) (e : p ≡ parsed (parseOf s)) where
+module _ (s : List ℕ) (octets : Octets s) (p : Parsed) (e : p ≡ parsed (parseOf s)) where
   number : (parsed (parseOf s)) .number ≡ p .number
   number = ap (λ (x : Parsed). x .number) (sym e)
 
   pub call-refused : {o : List ℕ} → (p .number ≡ 0 → ⊥) → Call edition-one s o (refused (p .number)) o
   unfolding sheetOf describe written
-  call-refused h = let q : parseOf s ≡ refused (p .number) = parsed-refused (parseOf s) number h in record { replies = rw q; leaves = rw q }
+  call-refused h = let q : parseOf s ≡ refused (p .number) = parsed-refused (parseOf s) number h in record { replies = rw q; leaves = rw q; octets = octets }
 
   module _ (zero : p .number ≡ 0) where
     library : parseOf s ≡ value (p .lib)
     library = parsed-value (parseOf s) (number ∙ zero) (never-zero s) ∙ ap (λ (x : Parsed). value (x .lib)) (sym e)
 
-    pub call-many : {o : List ℕ} → 65535 < p .lib .count → Call edition-one s o (refused 13) o
+    pub call-many : {o : List ℕ} → 65535 < typeCount (p .lib) → Call edition-one s o (refused 13) o
     unfolding sheetOf describe describeAs written
-    call-many h = record { replies = rw (library, lt-ltb 65535 (p .lib .count) h); leaves = rw (library, lt-ltb 65535 (p .lib .count) h) }
+    call-many h = record { replies = rw (library, lt-ltb 65535 (typeCount (p .lib)) h); leaves = rw (library, lt-ltb 65535 (typeCount (p .lib)) h); octets = octets }
 
-    is-emitted : (room : ℕ) → p .lib .count ≤ 65535 → sheetOf edition-one s room ≡ bind (sheetEmitted s (p .lib)) (within room)
+    is-emitted : (room : ℕ) → typeCount (p .lib) ≤ 65535 → sheetOf edition-one s room ≡ bind (sheetEmitted s (p .lib)) (within room)
     unfolding sheetOf describe describeAs sheetEmitted
-    is-emitted room h = rw (library, le-ltb 65535 (p .lib .count) h) (joined-answer (sheetBytes edition-one) room (map (λ types. record { header = headerOf s (p .lib); types = types }) (typesOf s (p .lib))))
+    is-emitted room h = rw (library, le-ltb 65535 (typeCount (p .lib)) h) (joined-answer (sheetBytes edition-one) room (map (λ types. record { header = headerOf s (p .lib); types = types }) (typesOf s (p .lib))))
 
-    pub call-answered : {o o′ : List ℕ} {r : Answer ℕ} → p .lib .count ≤ 65535 → Answered (sheetEmitted s (p .lib)) o r o′ → Call edition-one s o r o′
+    pub call-answered : {o o′ : List ℕ} {r : Answer ℕ} → typeCount (p .lib) ≤ 65535 → Answered (sheetEmitted s (p .lib)) o r o′ → Call edition-one s o r o′
     call-answered {o} {o′} {r} h a =
         record {
           replies = a .replies ∙ ap (map length) (sym (is-emitted (length o) h));
           leaves = a .leaves ∙ ap (written o) (sym (is-emitted (length o) h));
+          octets = octets;
         }

@@ -293,20 +293,20 @@ module _ (s : List ℕ) (lib : TypeLib) where
   start-at : typeCount lib ≤ 65535 → put (8 + 4 * typeCount lib) ≡ At (8 + 4 * typeCount lib)
   start-at few = put-at (8 + 4 * typeCount lib) (omega (arith, few))
 
-  pub sheet-whole : {t u r : Put} {o o₁ o₂ o₃ o₄ : List ℕ} → typeCount lib ≤ 65535
-      → Emitted (value (leBytes 4 (typeCount lib))) (put 0) o t o₁
-      → Emitted (value own-body) (put (8 + 4 * typeCount lib)) o₁ u o₂ → Patched (put (8 + 4 * typeCount lib)) u 4 o₂ o₃
+  pub sheet-whole : {n : ℕ} {t u r : Put} {o o₁ o₂ o₃ o₄ : List ℕ} → n ≡ typeCount lib → typeCount lib ≤ 65535
+      → Emitted (value (leBytes 4 n)) (put 0) o t o₁ → Emitted (value own-body) (put (8 + 4 * n)) o₁ u o₂ → Patched (put (8 + 4 * n)) u 4 o₂ o₃
       → Twofold (lensOf form bodies-of) (layAll form bodies-of) 8 u o₃ r o₄ → Emitted (sheetEmitted s lib) (put 0) o r o₄
-  sheet-whole few a h p w =
+  sheet-whole e few a h p w =
       let first : put 0 ≡ At 0 = put-at 0 (omega arith) in
-      rw first (known parts-are (whole (omega (arith, few)) both-parts (rw first at a) (two-more (rw (start-at few) at h) (rw (start-at few) at p) w)))
+      rw first
+      (known parts-are (whole (omega (arith, few)) both-parts (rw (e, first) at a) (two-more (rw (e, start-at few) at h) (rw (e, start-at few) at p) w)))
 
   -- where it ends, by the lengths of its parts
-  pub sheet-size : {t r : Put} {o o′ : List ℕ} → typeCount lib ≤ 65535 → Emitted (value own-body) (put (8 + 4 * typeCount lib)) o t o′ → r ≡ moved t (layAll form bodies-of)
-      → r ≡ moved (put 0) (sheetEmitted s lib)
-  sheet-size {t} few h w =
+  pub sheet-size : {n : ℕ} {t r : Put} {o o′ : List ℕ} → n ≡ typeCount lib → typeCount lib ≤ 65535
+      → Emitted (value own-body) (put (8 + 4 * n)) o t o′ → r ≡ moved t (layAll form bodies-of) → r ≡ moved (put 0) (sheetEmitted s lib)
+  sheet-size {n} {t} e few h w =
       w
-      ∙ ap (λ (u : Put). moved u (layAll form bodies-of)) (h .moves)
+      ∙ ap (λ (u : Put). moved u (layAll form bodies-of)) (h .moves ∙ ap (λ (m : ℕ). moved (put (8 + 4 * m)) (value own-body)) e)
       ∙ moved-join (value own-body) (layAll form bodies-of) (put (8 + 4 * typeCount lib))
       ∙ ap (λ (u : Put). moved u (value own-body ▸ layAll form bodies-of)) (start-at few)
       ∙ whole-moves (omega (arith, few)) both-parts

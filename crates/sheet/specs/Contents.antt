@@ -19,7 +19,7 @@ use Rattle.describe.specs.Describe.{headerOf, typesOf}
 use Rattle.describe.specs.Types.{typesFrom}
 use Rattle.emit.specs.Emit.{Put}
 use Rattle.emit.specs.Emit.{At, Refused}
-use Rattle.emit.specs.Emit.{_▸_, past, put, moved, overwritten}
+use Rattle.emit.specs.Emit.{_▸_, past, put, moved, overwritten, Emitted}
 use Rattle.sheet_members.specs.Bodies.{bodiesEmitted}
 
 -- the whole sheet of a library

@@ -7,7 +7,7 @@ ghost use Prim.Native.Nat.{_≤_};
 ghost use Rattle.records.specs.Told.{toldUsize};
 ghost use Rattle.description.specs.Sheet.{edition-one};
 ghost use Rattle.describe.specs.Call.{Call};
-ghost use Rattle.sheet.specs.Contents.{sheetEmitted, Answered, Made, made};
+ghost use Rattle.sheet.specs.Contents.{sheetEmitted, Answered, Made};
 ghost use Rattle.typelib.specs.Header.{library, typeCount};
 
 mod contents;
