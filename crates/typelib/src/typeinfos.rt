@@ -91,45 +91,28 @@ impl TypeLib {
     pub fn func_memid(self, s: &[u8], ti: TypeInfoEntry, index: usize) -> I32Answer
         ensures { λ r. ⌜ toldI32 r ≡ signed32 (funcMemid (now (s .entry)) ti index) ⌝ }
     {
-        match declared_counts(s, ti) {
-            CountsAnswer::Value(c) => signed(aux_at(s, ti, 0, index)),
-            CountsAnswer::Refused(n) => I32Answer::Refused(n),
-        }
+        func_memid(s, ti, index)
     }
 
     // The member identifier of variable `index`.
     pub fn var_memid(self, s: &[u8], ti: TypeInfoEntry, index: usize) -> I32Answer
         ensures { λ r. ⌜ toldI32 r ≡ signed32 (varMemid (now (s .entry)) ti index) ⌝ }
     {
-        match declared_counts(s, ti) {
-            CountsAnswer::Value(c) => signed(aux_at(s, ti, c.funcs as u32, index)),
-            CountsAnswer::Refused(n) => I32Answer::Refused(n),
-        }
+        var_memid(s, ti, index)
     }
 
     // The name offset of function `index`; -1 where it has no name of its own.
     pub fn func_name_offset(self, s: &[u8], ti: TypeInfoEntry, index: usize) -> I32Answer
         ensures { λ r. ⌜ toldI32 r ≡ signed32 (funcNameOffset (now (s .entry)) ti index) ⌝ }
     {
-        match declared_counts(s, ti) {
-            CountsAnswer::Value(c) => signed(aux_at(s, ti, c.funcs as u32 + c.vars as u32, index)),
-            CountsAnswer::Refused(n) => I32Answer::Refused(n),
-        }
+        func_name_offset(s, ti, index)
     }
 
     // The name offset of variable `index`.
     pub fn var_name_offset(self, s: &[u8], ti: TypeInfoEntry, index: usize) -> I32Answer
         ensures { λ r. ⌜ toldI32 r ≡ signed32 (varNameOffset (now (s .entry)) ti index) ⌝ }
     {
-        match declared_counts(s, ti) {
-            CountsAnswer::Value(c) => signed(aux_at(
-                s,
-                ti,
-                2 * (c.funcs as u32) + c.vars as u32,
-                index,
-            )),
-            CountsAnswer::Refused(n) => I32Answer::Refused(n),
-        }
+        var_name_offset(s, ti, index)
     }
 
     // The name of function `index`, where it is UTF-8.
@@ -139,7 +122,7 @@ impl TypeLib {
         if LIMIT < s.len() {
             return PlaceAnswer::Refused(1);
         }
-        let I32Answer::Value(offset) = self.func_name_offset(s, ti, index) else {
+        let I32Answer::Value(offset) = func_name_offset(s, ti, index) else {
             return PlaceAnswer::Refused(9);
         };
         self.name(s, offset)
@@ -152,10 +135,52 @@ impl TypeLib {
         if LIMIT < s.len() {
             return PlaceAnswer::Refused(1);
         }
-        let I32Answer::Value(offset) = self.var_name_offset(s, ti, index) else {
+        let I32Answer::Value(offset) = var_name_offset(s, ti, index) else {
             return PlaceAnswer::Refused(9);
         };
         self.name(s, offset)
+    }
+}
+
+// The words of a typeinfo's members need no library: the readings above are these.
+pub fn func_memid(s: &[u8], ti: TypeInfoEntry, index: usize) -> I32Answer
+    ensures { λ r. ⌜ toldI32 r ≡ signed32 (funcMemid (now (s .entry)) ti index) ⌝ }
+{
+    match declared_counts(s, ti) {
+        CountsAnswer::Value(c) => signed(aux_at(s, ti, 0, index)),
+        CountsAnswer::Refused(n) => I32Answer::Refused(n),
+    }
+}
+
+pub fn var_memid(s: &[u8], ti: TypeInfoEntry, index: usize) -> I32Answer
+    ensures { λ r. ⌜ toldI32 r ≡ signed32 (varMemid (now (s .entry)) ti index) ⌝ }
+{
+    match declared_counts(s, ti) {
+        CountsAnswer::Value(c) => signed(aux_at(s, ti, c.funcs as u32, index)),
+        CountsAnswer::Refused(n) => I32Answer::Refused(n),
+    }
+}
+
+pub fn func_name_offset(s: &[u8], ti: TypeInfoEntry, index: usize) -> I32Answer
+    ensures { λ r. ⌜ toldI32 r ≡ signed32 (funcNameOffset (now (s .entry)) ti index) ⌝ }
+{
+    match declared_counts(s, ti) {
+        CountsAnswer::Value(c) => signed(aux_at(s, ti, c.funcs as u32 + c.vars as u32, index)),
+        CountsAnswer::Refused(n) => I32Answer::Refused(n),
+    }
+}
+
+pub fn var_name_offset(s: &[u8], ti: TypeInfoEntry, index: usize) -> I32Answer
+    ensures { λ r. ⌜ toldI32 r ≡ signed32 (varNameOffset (now (s .entry)) ti index) ⌝ }
+{
+    match declared_counts(s, ti) {
+        CountsAnswer::Value(c) => signed(aux_at(
+            s,
+            ti,
+            2 * (c.funcs as u32) + c.vars as u32,
+            index,
+        )),
+        CountsAnswer::Refused(n) => I32Answer::Refused(n),
     }
 }
 

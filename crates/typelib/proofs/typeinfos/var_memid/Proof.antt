@@ -3,8 +3,8 @@ use Rattle.records.specs.AnswerLaws.{tells, bind-value, bind-refused}
 use Rattle.records.specs.Record.{signed32}
 use mathlib.Core.Path.{_∙_, ap}
 use borrow.Author.Needs.{needs}
-use Rattle.typelib.proofs.TypeLib.var_memid.Statement.{statement}
-use Rattle.typelib.proofs.TypeLib.var_memid.Tie as tie
+use Rattle.typelib.proofs.typeinfos.var_memid.Statement.{statement}
+use Rattle.typelib.proofs.typeinfos.var_memid.Tie as tie
 
 declared-counts-requires : tie.Need-declared-counts-requires
 declared-counts-requires c κs = search needs
