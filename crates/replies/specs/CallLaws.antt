@@ -79,10 +79,12 @@ behind-reply (suc n) a = refl
 
 -- ---- an export: what it calls replies or lays out, by the definitions that are cited
 
-pub replied : {n m : ℕ} {x y : Answer ℕ} {z k : ℤ} → z ≡ replyBehind n k → k ≡ reply x → n ≡ m → x ≡ y → z ≡ reply (after m y)
-replied {n} {m} {x} {y} e i f g =
-    e ∙ ap (replyBehind n) i ∙ behind-reply n x ∙ ap (λ (k : ℕ). reply (after k x)) f ∙ ap (λ (a : Answer ℕ). reply (after m a)) g
+pub replied : (n : ℕ) {x y : Answer ℕ} {k z : ℤ} → z ≡ replyBehind n k → k ≡ reply x → x ≡ y → z ≡ reply (after n y)
+replied n {x} e f g = e ∙ ap (replyBehind n) f ∙ behind-reply n x ∙ ap (λ (a : Answer ℕ). reply (after n a)) g
 
-pub laid-as : (o : List ℕ) {n m : ℕ} {x y : Answer (List ℕ)} {w : Outcome} → w ≡ laid (after n x) o → n ≡ m → x ≡ y → w ≡ laid (after m y) o
-laid-as o {n} {m} {x} {y} e f g =
-    e ∙ ap (λ (k : ℕ). laid (after k x) o) f ∙ ap (λ (a : Answer (List ℕ)). laid (after m a) o) g
+module _ (o : List ℕ) {x y : Answer (List ℕ)} {w : Outcome} where
+  pub laid-as : w ≡ laid x o → x ≡ y → w ≡ laid y o
+  laid-as e g = e ∙ ap (λ (a : Answer (List ℕ)). laid a o) g
+
+  pub laid-after : {n : ℕ} → w ≡ laid (after n x) o → x ≡ y → w ≡ laid (after n y) o
+  laid-after {n} e g = e ∙ ap (λ (a : Answer (List ℕ)). laid (after n a) o) g
