@@ -86,5 +86,5 @@ module _ (o : List ℕ) {x y : Answer (List ℕ)} {w : Outcome} where
   pub laid-as : w ≡ laid x o → x ≡ y → w ≡ laid y o
   laid-as e g = e ∙ ap (λ (a : Answer (List ℕ)). laid a o) g
 
-  pub laid-after : {n : ℕ} → w ≡ laid (after n x) o → x ≡ y → w ≡ laid (after n y) o
-  laid-after {n} e g = e ∙ ap (λ (a : Answer (List ℕ)). laid (after n a) o) g
+  pub laid-after : (n : ℕ) → w ≡ laid (after n x) o → x ≡ y → w ≡ laid (after n y) o
+  laid-after n e g = e ∙ ap (λ (a : Answer (List ℕ)). laid (after n a) o) g
