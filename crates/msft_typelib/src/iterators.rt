@@ -22,7 +22,7 @@ ghost use Rattle.records.specs.Answer.{map};
 ghost use Rattle.impltypes.specs.Chain.{implTypeStep, walkOf};
 ghost use Rattle.cursors.specs.Cursors.{funcStep, funcsOf, paramStep, paramsOf, varStep, varsOf};
 ghost use Rattle.table_cursors.specs.Cursors.{guidStep, impFileStep, importStep, nameStep};
-ghost use Rattle.msft_typelib.specs.Rows.{guidsRow, impFilesRow, implTypesRow, importsRow, namesRow, typeinfosRow, typesLeftRow};
+ghost use Rattle.msft_typelib.specs.Rows.{guidsRow, impFilesRow, implTypesRow, importsRow, namesRow, typeinfoStepRow, typeinfosRow, typesLeftRow};
 ghost use mathlib.Core.Path.{_≡_};
 
 // The function records of a typeinfo.
@@ -230,7 +230,7 @@ pub extern "C" fn msft_name_step(
 
 #[no_mangle]
 pub extern "C" fn msft_typeinfo_step(s: &[u8], index: usize, out: &mut [u8]) -> i64
-    ensures { λ r. ⌜ outcome r (now (out .exit)) ≡ laid (typeinfo (now (s .entry)) tepRow (now (s .entry)) (typeinfosAt index)) (now (out .entry)) ⌝ }
+    ensures { λ r. ⌜ outcome r (now (out .exit)) ≡ laid (typeinfoStepRow (now (s .entry)) (typeinfosAt index)) (now (out .entry)) ⌝ }
 {
     let p = TypeLib::parse(s);
     let lib = p.lib;

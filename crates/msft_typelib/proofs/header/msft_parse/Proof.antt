@@ -1,5 +1,6 @@
+use mathlib.Core.Path.{refl}
 use Rattle.replies.specs.Call.{reply}
-use Rattle.replies.specs.CallLaws.{behind-reply}
+use Rattle.replies.specs.CallLaws.{replied}
 use Rattle.records.specs.Answer.{value}
 use borrow.Author.Needs.{needs}
 use Rattle.msft_typelib.proofs.header.msft_parse.Statement.{statement}
@@ -13,7 +14,7 @@ behind-requires c κs = search needs
 
 returns : tie.Need-returns
 unfolding reply
-returns c = ?
+returns c = rw (← c .before .refusal .ensures) (replied _ {x = value 0} (c .behind .ensures) refl refl)
 
 pub msft-parse-spec : {M : Type 1} → statement M
 msft-parse-spec = tie.close (tie.spec refusal-requires behind-requires returns)
