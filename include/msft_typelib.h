@@ -3,11 +3,10 @@
    Each function below is a proved reading; its contract says what it replies and what it leaves in
    its output, for every input.
 
-   lib, lib_len   the bytes of the library. Every call that takes them begins with `parse`, and
-                  replies -1 to -5 where they are no library.
+   lib, lib_len   the lent bytes: the library's, or those of a record alone (see below).
    at, len        a record or a text, by its place in those bytes, as another call wrote it.
    pos, end, ..   a cursor, by its numbers, as another call wrote it.
-   out, out_len   the output. It must not overlap the library.
+   out, out_len   the output. It must not overlap the lent bytes.
 
    A reading of one number of at most 32 bits replies that number: an i32 and an i16 by their bits
    (msft_i32 and msft_i16 give the signed number), a truth as 0 or 1. Any other writes its values to
@@ -15,9 +14,19 @@
    place, a length, an index and a cursor's numbers have eight bytes each. The functions
    msft_unpack_.. read them back.
 
-   A refusal replies minus its number and writes nothing. An output that is too short is -12, behind
-   every other refusal. The numbers in the comments are those beside -1 to -5. A place or a cursor
-   that comes back damaged is refused or read as any other number; no call looks outside its bytes. */
+   Calls that need the library's header, its table of offsets or a segment begin with `parse`, and
+   reply -1 to -5 where the bytes are no library. The others read only the lent bytes, which need be
+   no library, and do not parse: those of a record by its place; msft_funcs, msft_vars and
+   msft_params, which are a typeinfo's or a function's own cursors; every step but
+   msft_typeinfo_step; msft_walk; and a member's identifier and the offset of its name,
+   msft_func_memid, msft_var_memid, msft_func_name_offset and msft_var_name_offset. They reply -1
+   where more than 16,777,216 bytes are lent, and -9 for a record that is not wholly inside them or
+   shorter than its fixed part.
+
+   A refusal replies minus its number and writes nothing. The numbers in a comment are all that the
+   call has. An output that is too short is -12, which stands behind every other refusal unless the
+   comment says otherwise. A place or a cursor that comes back damaged is refused or read as any
+   other number; no call looks outside its bytes. */
 #ifndef MSFT_TYPELIB_H
 #define MSFT_TYPELIB_H
 
@@ -70,364 +79,370 @@ static inline const char *msft_refusal_word(int64_t reply)
 
 /* ---- the sheet (its call needs some 150 KB of stack) ---- */
 
-/* The library's sheet. Writes it whole; -6 to -8, -10 to -13. */
+/* The library's sheet. Writes it whole; -1 to -8, -10 to -13. */
 int64_t msft_sheet(const uint8_t *lib, size_t lib_len, uint8_t *out, size_t out_len);
 
 /* ---- guid: a GUID, by its place ---- */
-/* The place of the 16 bytes. Writes a place (16 bytes); -9, -12. */
+/* The place of the 16 bytes. Writes a place (16 bytes); -1, -9, -12. */
 int64_t msft_guid_as_bytes(
     const uint8_t *lib, size_t lib_len, size_t at, size_t len, uint8_t *out, size_t out_len);
 
-/* The first four bytes, as a number. Replies a u32; -9. */
+/* The first four bytes, as a number. Replies a u32; -1, -9. */
 int64_t msft_guid_data1(const uint8_t *lib, size_t lib_len, size_t at, size_t len);
 
-/* Bytes 4 and 5, as a number. Replies a u16; -9. */
+/* Bytes 4 and 5, as a number. Replies a u16; -1, -9. */
 int64_t msft_guid_data2(const uint8_t *lib, size_t lib_len, size_t at, size_t len);
 
-/* Bytes 6 and 7, as a number. Replies a u16; -9. */
+/* Bytes 6 and 7, as a number. Replies a u16; -1, -9. */
 int64_t msft_guid_data3(const uint8_t *lib, size_t lib_len, size_t at, size_t len);
 
-/* The place of the last eight bytes. Writes a place (16 bytes); -9, -12. */
+/* The place of the last eight bytes. Writes a place (16 bytes); -1, -9, -12. */
 int64_t msft_guid_data4(
     const uint8_t *lib, size_t lib_len, size_t at, size_t len, uint8_t *out, size_t out_len);
 
-/* The text form, `{XXXXXXXX-XXXX-XXXX-XXXX-XXXXXXXXXXXX}`. Writes the text (38 bytes); -9, -12. */
+/* The text form, `{XXXXXXXX-XXXX-XXXX-XXXX-XXXXXXXXXXXX}`. Writes the text (38 bytes); -1, -9,
+   -12. */
 int64_t msft_guid_text(
     const uint8_t *lib, size_t lib_len, size_t at, size_t len, uint8_t *out, size_t out_len);
 
 /* ---- guidentry: an entry of the GUID table, by its place ---- */
-/* The GUID itself. Writes a place (16 bytes); -9, -12. */
+/* The GUID itself. Writes a place (16 bytes); -1, -9, -12. */
 int64_t msft_guidentry_guid(
     const uint8_t *lib, size_t lib_len, size_t at, size_t len, uint8_t *out, size_t out_len);
 
 /* The hreftype of the type it belongs to; -2 for the library's own GUID. Replies the 32 bits of
-   an i32; -9. */
+   an i32; -1, -9. */
 int64_t msft_guidentry_hreftype(const uint8_t *lib, size_t lib_len, size_t at, size_t len);
 
 /* The offset of the next entry of the hash chain; -1 at its end. Replies the 32 bits of an i32;
-   -9. */
+   -1, -9. */
 int64_t msft_guidentry_next_hash(const uint8_t *lib, size_t lib_len, size_t at, size_t len);
 
 /* ---- param: a function's parameter, by its place ---- */
 /* The parameter's type field: negative for a base type, else an offset into the type-descriptor
-   table. Replies the 32 bits of an i32; -9. */
+   table. Replies the 32 bits of an i32; -1, -9. */
 int64_t msft_param_datatype(const uint8_t *lib, size_t lib_len, size_t at, size_t len);
 
-/* The offset of its name in the name table. Replies the 32 bits of an i32; -9. */
+/* The offset of its name in the name table. Replies the 32 bits of an i32; -1, -9. */
 int64_t msft_param_name_offset(const uint8_t *lib, size_t lib_len, size_t at, size_t len);
 
-/* PARAMFLAG bits. Replies a u32; -9. */
+/* PARAMFLAG bits. Replies a u32; -1, -9. */
 int64_t msft_param_flags(const uint8_t *lib, size_t lib_len, size_t at, size_t len);
 
-/* Whether the parameter goes in. Replies 0 or 1; -9. */
+/* Whether the parameter goes in. Replies 0 or 1; -1, -9. */
 int64_t msft_param_is_in(const uint8_t *lib, size_t lib_len, size_t at, size_t len);
 
-/* Whether the parameter comes out. Replies 0 or 1; -9. */
+/* Whether the parameter comes out. Replies 0 or 1; -1, -9. */
 int64_t msft_param_is_out(const uint8_t *lib, size_t lib_len, size_t at, size_t len);
 
-/* Whether the parameter is the result. Replies 0 or 1; -9. */
+/* Whether the parameter is the result. Replies 0 or 1; -1, -9. */
 int64_t msft_param_is_retval(const uint8_t *lib, size_t lib_len, size_t at, size_t len);
 
-/* Whether the parameter may be left out. Replies 0 or 1; -9. */
+/* Whether the parameter may be left out. Replies 0 or 1; -1, -9. */
 int64_t msft_param_is_optional(const uint8_t *lib, size_t lib_len, size_t at, size_t len);
 
 /* ---- refrecord: a record of a chain of implemented types, by its place ---- */
-/* The hreftype of the interface. Replies the 32 bits of an i32; -9. */
+/* The hreftype of the interface. Replies the 32 bits of an i32; -1, -9. */
 int64_t msft_ref_reftype(const uint8_t *lib, size_t lib_len, size_t at, size_t len);
 
-/* IMPLTYPEFLAG bits. Replies a u32; -9. */
+/* IMPLTYPEFLAG bits. Replies a u32; -1, -9. */
 int64_t msft_ref_flags(const uint8_t *lib, size_t lib_len, size_t at, size_t len);
 
-/* The offset of the next record of the chain; -1 at its end. Replies the 32 bits of an i32; -9. */
+/* The offset of the next record of the chain; -1 at its end. Replies the 32 bits of an i32; -1,
+   -9. */
 int64_t msft_ref_onext(const uint8_t *lib, size_t lib_len, size_t at, size_t len);
 
-/* Whether the interface is the default one. Replies 0 or 1; -9. */
+/* Whether the interface is the default one. Replies 0 or 1; -1, -9. */
 int64_t msft_ref_is_default(const uint8_t *lib, size_t lib_len, size_t at, size_t len);
 
-/* Whether the interface is a source of events. Replies 0 or 1; -9. */
+/* Whether the interface is a source of events. Replies 0 or 1; -1, -9. */
 int64_t msft_ref_is_source(const uint8_t *lib, size_t lib_len, size_t at, size_t len);
 
-/* Whether the interface is restricted. Replies 0 or 1; -9. */
+/* Whether the interface is restricted. Replies 0 or 1; -1, -9. */
 int64_t msft_ref_is_restricted(const uint8_t *lib, size_t lib_len, size_t at, size_t len);
 
 /* ---- impinfo: an import record, by its place ---- */
 /* Bit 16: the last field is an offset into the GUID table. Bits 24 to 31: the TYPEKIND. Replies
-   a u32; -9. */
+   a u32; -1, -9. */
 int64_t msft_impinfo_flags(const uint8_t *lib, size_t lib_len, size_t at, size_t len);
 
-/* The offset of the import file in its table. Replies the 32 bits of an i32; -9. */
+/* The offset of the import file in its table. Replies the 32 bits of an i32; -1, -9. */
 int64_t msft_impinfo_imp_file_offset(const uint8_t *lib, size_t lib_len, size_t at, size_t len);
 
 /* The offset of the GUID in its table, or the index of the type in the imported library. Replies
-   the 32 bits of an i32; -9. */
+   the 32 bits of an i32; -1, -9. */
 int64_t msft_impinfo_guid_offset(const uint8_t *lib, size_t lib_len, size_t at, size_t len);
 
 /* ---- arraydesc: a C array's descriptor, by its place ---- */
-/* The type field of the elements. Replies the 32 bits of an i32; -9. */
+/* The type field of the elements. Replies the 32 bits of an i32; -1, -9. */
 int64_t msft_arraydesc_element_type(const uint8_t *lib, size_t lib_len, size_t at, size_t len);
 
-/* The number of dimensions. Replies a u16; -9. */
+/* The number of dimensions. Replies a u16; -1, -9. */
 int64_t msft_arraydesc_num_dims(const uint8_t *lib, size_t lib_len, size_t at, size_t len);
 
-/* Its flags. Replies a u16; -9. */
+/* Its flags. Replies a u16; -1, -9. */
 int64_t msft_arraydesc_flags(const uint8_t *lib, size_t lib_len, size_t at, size_t len);
 
 /* The bounds of dimension `index`, counted from 0. Writes u32 elements, i32 lower bound (8
-   bytes); -9, -12. */
+   bytes); -1, -9, -12. */
 int64_t msft_arraydesc_bound(
     const uint8_t *lib, size_t lib_len, size_t at, size_t len, size_t index, uint8_t *out,
     size_t out_len);
 
 /* The descriptor's length with its bounds, by its count of dimensions. Writes a u64 (8 bytes);
-   -9, -12. */
+   -1, -9, -12. */
 int64_t msft_arraydesc_size(
     const uint8_t *lib, size_t lib_len, size_t at, size_t len, uint8_t *out, size_t out_len);
 
 /* ---- impfile: an import file, by its place ---- */
-/* The offset of the library's GUID in the GUID table. Replies the 32 bits of an i32; -9. */
+/* The offset of the library's GUID in the GUID table. Replies the 32 bits of an i32; -1, -9. */
 int64_t msft_impfile_guid_offset(const uint8_t *lib, size_t lib_len, size_t at, size_t len);
 
-/* Its locale. Replies the 32 bits of an i32; -9. */
+/* Its locale. Replies the 32 bits of an i32; -1, -9. */
 int64_t msft_impfile_lcid(const uint8_t *lib, size_t lib_len, size_t at, size_t len);
 
-/* The major version of the library it names. Replies a u16; -9. */
+/* The major version of the library it names. Replies a u16; -1, -9. */
 int64_t msft_impfile_major_version(const uint8_t *lib, size_t lib_len, size_t at, size_t len);
 
-/* The minor version of the library it names. Replies a u16; -9. */
+/* The minor version of the library it names. Replies a u16; -1, -9. */
 int64_t msft_impfile_minor_version(const uint8_t *lib, size_t lib_len, size_t at, size_t len);
 
-/* The length of the file name in bits 2 to 15; bits 0 and 1 are flags. Replies a u16; -9. */
+/* The length of the file name in bits 2 to 15; bits 0 and 1 are flags. Replies a u16; -1, -9. */
 int64_t msft_impfile_size_field(const uint8_t *lib, size_t lib_len, size_t at, size_t len);
 
-/* The file name, where it is UTF-8. Writes a place (16 bytes); -9, -12. */
+/* The file name, where it is UTF-8. Writes a place (16 bytes); -1, -9, -12. */
 int64_t msft_impfile_filename(
     const uint8_t *lib, size_t lib_len, size_t at, size_t len, uint8_t *out, size_t out_len);
 
-/* The file name, in the code page the library was built in. Writes a place (16 bytes); -9, -12. */
+/* The file name, in the code page the library was built in. Writes a place (16 bytes); -1, -9,
+   -12. */
 int64_t msft_impfile_filename_bytes(
     const uint8_t *lib, size_t lib_len, size_t at, size_t len, uint8_t *out, size_t out_len);
 
-/* The entry's length with its name, filled up to a multiple of four. Writes a u64 (8 bytes); -9,
-   -12. */
+/* The entry's length with its name, filled up to a multiple of four. Writes a u64 (8 bytes); -1,
+   -9, -12. */
 int64_t msft_impfile_entry_size(
     const uint8_t *lib, size_t lib_len, size_t at, size_t len, uint8_t *out, size_t out_len);
 
 /* ---- name: an entry of the name table, by the place of its text ---- */
-/* The entry's name, where it is UTF-8. Writes a place (16 bytes); -9, -12. */
+/* The entry's name, where it is UTF-8. Writes a place (16 bytes); -1, -9, -12. */
 int64_t msft_nameentry_name(
     const uint8_t *lib, size_t lib_len, size_t at, size_t len, uint8_t *out, size_t out_len);
 
 /* ---- typeinfo: a typeinfo, by its place ---- */
-/* The record's bytes. Writes a place (16 bytes); -9, -12. */
+/* The record's bytes. Writes a place (16 bytes); -1, -9, -12. */
 int64_t msft_typeinfo_as_bytes(
     const uint8_t *lib, size_t lib_len, size_t at, size_t len, uint8_t *out, size_t out_len);
 
-/* The kind, in the low four bits of its field. Replies 0 to 15; -9. */
+/* The kind, in the low four bits of its field. Replies 0 to 15; -1, -9. */
 int64_t msft_typeinfo_typekind(const uint8_t *lib, size_t lib_len, size_t at, size_t len);
 
 /* The whole field: the kind in its low four bits, the alignment in bits 11 to 15. Replies a u32;
-   -9. */
+   -1, -9. */
 int64_t msft_typeinfo_typekind_raw(const uint8_t *lib, size_t lib_len, size_t at, size_t len);
 
 /* The file offset of the block of function and variable records; negative where there is none.
-   Replies the 32 bits of an i32; -9. */
+   Replies the 32 bits of an i32; -1, -9. */
 int64_t msft_typeinfo_memoffset(const uint8_t *lib, size_t lib_len, size_t at, size_t len);
 
-/* The word at 0x08. Replies the 32 bits of an i32; -9. */
+/* The word at 0x08. Replies the 32 bits of an i32; -1, -9. */
 int64_t msft_typeinfo_res2(const uint8_t *lib, size_t lib_len, size_t at, size_t len);
 
-/* The declared counts: functions in the low half, variables in the high half. Replies a u32; -9. */
+/* The declared counts: functions in the low half, variables in the high half. Replies a u32; -1,
+   -9. */
 int64_t msft_typeinfo_celement(const uint8_t *lib, size_t lib_len, size_t at, size_t len);
 
-/* How many functions it declares. Replies a u16; -9. */
+/* How many functions it declares. Replies a u16; -1, -9. */
 int64_t msft_typeinfo_func_count(const uint8_t *lib, size_t lib_len, size_t at, size_t len);
 
-/* How many variables it declares. Replies a u16; -9. */
+/* How many variables it declares. Replies a u16; -1, -9. */
 int64_t msft_typeinfo_var_count(const uint8_t *lib, size_t lib_len, size_t at, size_t len);
 
 /* The offset of the type's GUID in its table; -1 where it has none. Replies the 32 bits of an
-   i32; -9. */
+   i32; -1, -9. */
 int64_t msft_typeinfo_guid_offset(const uint8_t *lib, size_t lib_len, size_t at, size_t len);
 
-/* TYPEFLAG bits. Replies a u32; -9. */
+/* TYPEFLAG bits. Replies a u32; -1, -9. */
 int64_t msft_typeinfo_flags(const uint8_t *lib, size_t lib_len, size_t at, size_t len);
 
-/* The offset of its name in the name table. Replies the 32 bits of an i32; -9. */
+/* The offset of its name in the name table. Replies the 32 bits of an i32; -1, -9. */
 int64_t msft_typeinfo_name_offset(const uint8_t *lib, size_t lib_len, size_t at, size_t len);
 
-/* Its version, the major one in the low 16 bits. Replies a u32; -9. */
+/* Its version, the major one in the low 16 bits. Replies a u32; -1, -9. */
 int64_t msft_typeinfo_version(const uint8_t *lib, size_t lib_len, size_t at, size_t len);
 
 /* The offset of its doc string in the string table; -1 where it has none. Replies the 32 bits of
-   an i32; -9. */
+   an i32; -1, -9. */
 int64_t msft_typeinfo_docstring_offset(const uint8_t *lib, size_t lib_len, size_t at, size_t len);
 
-/* How many interfaces it implements. Replies the 16 bits of an i16; -9. */
+/* How many interfaces it implements. Replies the 16 bits of an i16; -1, -9. */
 int64_t msft_typeinfo_cimpltypes(const uint8_t *lib, size_t lib_len, size_t at, size_t len);
 
-/* The size of its virtual table in bytes. Replies the 16 bits of an i16; -9. */
+/* The size of its virtual table in bytes. Replies the 16 bits of an i16; -1, -9. */
 int64_t msft_typeinfo_cb_size_vft(const uint8_t *lib, size_t lib_len, size_t at, size_t len);
 
-/* The size of an instance in bytes. Replies the 32 bits of an i32; -9. */
+/* The size of an instance in bytes. Replies the 32 bits of an i32; -1, -9. */
 int64_t msft_typeinfo_size(const uint8_t *lib, size_t lib_len, size_t at, size_t len);
 
 /* Of a coclass the offset of its first reference, of an alias the type field it stands for, of
-   an interface the hreftype of its base. Replies the 32 bits of an i32; -9. */
+   an interface the hreftype of its base. Replies the 32 bits of an i32; -1, -9. */
 int64_t msft_typeinfo_datatype1(const uint8_t *lib, size_t lib_len, size_t at, size_t len);
 
-/* The word at 0x58. Replies the 32 bits of an i32; -9. */
+/* The word at 0x58. Replies the 32 bits of an i32; -1, -9. */
 int64_t msft_typeinfo_datatype2(const uint8_t *lib, size_t lib_len, size_t at, size_t len);
 
-/* The context of its help string. Replies the 32 bits of an i32; -9. */
+/* The context of its help string. Replies the 32 bits of an i32; -1, -9. */
 int64_t msft_typeinfo_helpstringcontext(const uint8_t *lib, size_t lib_len, size_t at, size_t len);
 
-/* Its help context. Replies the 32 bits of an i32; -9. */
+/* Its help context. Replies the 32 bits of an i32; -1, -9. */
 int64_t msft_typeinfo_helpcontext(const uint8_t *lib, size_t lib_len, size_t at, size_t len);
 
 /* The offset of its custom data in their directory; -1 where it has none. Replies the 32 bits of
-   an i32; -9. */
+   an i32; -1, -9. */
 int64_t msft_typeinfo_cust_data_offset(const uint8_t *lib, size_t lib_len, size_t at, size_t len);
 
-/* The word at 0x0C. Replies the 32 bits of an i32; -9. */
+/* The word at 0x0C. Replies the 32 bits of an i32; -1, -9. */
 int64_t msft_typeinfo_res3(const uint8_t *lib, size_t lib_len, size_t at, size_t len);
 
-/* The word at 0x5C. Replies the 32 bits of an i32; -9. */
+/* The word at 0x5C. Replies the 32 bits of an i32; -1, -9. */
 int64_t msft_typeinfo_res18(const uint8_t *lib, size_t lib_len, size_t at, size_t len);
 
-/* The word at 0x60. Replies the 32 bits of an i32; -9. */
+/* The word at 0x60. Replies the 32 bits of an i32; -1, -9. */
 int64_t msft_typeinfo_res19(const uint8_t *lib, size_t lib_len, size_t at, size_t len);
 
 /* ---- var: the record of a variable, by its place ---- */
 /* The record at that place; 9 where it is shorter than its fixed part or not inside the bytes.
-   Writes a place (16 bytes); -9, -12. */
+   Writes a place (16 bytes); -1, -9, -12. */
 int64_t msft_var_from_raw(
     const uint8_t *lib, size_t lib_len, size_t at, size_t len, uint8_t *out, size_t out_len);
 
-/* The record's bytes. Writes a place (16 bytes); -9, -12. */
+/* The record's bytes. Writes a place (16 bytes); -1, -9, -12. */
 int64_t msft_var_as_bytes(
     const uint8_t *lib, size_t lib_len, size_t at, size_t len, uint8_t *out, size_t out_len);
 
-/* The record's size in its low 16 bits, and the member's index. Replies a u32; -9. */
+/* The record's size in its low 16 bits, and the member's index. Replies a u32; -1, -9. */
 int64_t msft_var_info(const uint8_t *lib, size_t lib_len, size_t at, size_t len);
 
-/* The record's own size. Writes a u64 (8 bytes); -9, -12. */
+/* The record's own size. Writes a u64 (8 bytes); -1, -9, -12. */
 int64_t msft_var_record_size(
     const uint8_t *lib, size_t lib_len, size_t at, size_t len, uint8_t *out, size_t out_len);
 
-/* The variable's type field. Replies the 32 bits of an i32; -9. */
+/* The variable's type field. Replies the 32 bits of an i32; -1, -9. */
 int64_t msft_var_datatype(const uint8_t *lib, size_t lib_len, size_t at, size_t len);
 
-/* VARFLAG bits. Replies a u32; -9. */
+/* VARFLAG bits. Replies a u32; -1, -9. */
 int64_t msft_var_flags(const uint8_t *lib, size_t lib_len, size_t at, size_t len);
 
-/* VARKIND: 0 per instance, 1 static, 2 constant, 3 dispatch. Replies the 16 bits of an i16; -9. */
+/* VARKIND: 0 per instance, 1 static, 2 constant, 3 dispatch. Replies the 16 bits of an i16; -1,
+   -9. */
 int64_t msft_var_varkind(const uint8_t *lib, size_t lib_len, size_t at, size_t len);
 
-/* The size of its VARDESC. Replies the 16 bits of an i16; -9. */
+/* The size of its VARDESC. Replies the 16 bits of an i16; -1, -9. */
 int64_t msft_var_vardesc_size(const uint8_t *lib, size_t lib_len, size_t at, size_t len);
 
 /* Of a constant its value or the value's place, of any other variable its offset in the
-   instance. Replies the 32 bits of an i32; -9. */
+   instance. Replies the 32 bits of an i32; -1, -9. */
 int64_t msft_var_offs_value(const uint8_t *lib, size_t lib_len, size_t at, size_t len);
 
-/* Its help context, an attribute. Replies the 32 bits of an i32; -9. */
+/* Its help context, an attribute. Replies the 32 bits of an i32; -1, -9. */
 int64_t msft_var_help_context(const uint8_t *lib, size_t lib_len, size_t at, size_t len);
 
-/* The offset of its help string in the string table. Replies the 32 bits of an i32; -9. */
+/* The offset of its help string in the string table. Replies the 32 bits of an i32; -1, -9. */
 int64_t msft_var_help_string_offset(const uint8_t *lib, size_t lib_len, size_t at, size_t len);
 
-/* An attribute without a name. Replies the 32 bits of an i32; -9. */
+/* An attribute without a name. Replies the 32 bits of an i32; -1, -9. */
 int64_t msft_var_res9(const uint8_t *lib, size_t lib_len, size_t at, size_t len);
 
-/* The offset of its custom data in their directory. Replies the 32 bits of an i32; -9. */
+/* The offset of its custom data in their directory. Replies the 32 bits of an i32; -1, -9. */
 int64_t msft_var_cust_data_offset(const uint8_t *lib, size_t lib_len, size_t at, size_t len);
 
-/* The context of its help string, an attribute. Replies the 32 bits of an i32; -9. */
+/* The context of its help string, an attribute. Replies the 32 bits of an i32; -1, -9. */
 int64_t msft_var_helpstringcontext(const uint8_t *lib, size_t lib_len, size_t at, size_t len);
 
 /* ---- func: the record of a function, by its place ---- */
-/* The record's bytes. Writes a place (16 bytes); -9, -12. */
+/* The record's bytes. Writes a place (16 bytes); -1, -9, -12. */
 int64_t msft_func_as_bytes(
     const uint8_t *lib, size_t lib_len, size_t at, size_t len, uint8_t *out, size_t out_len);
 
-/* The record's size in its low 16 bits, and the member's index. Replies a u32; -9. */
+/* The record's size in its low 16 bits, and the member's index. Replies a u32; -1, -9. */
 int64_t msft_func_info(const uint8_t *lib, size_t lib_len, size_t at, size_t len);
 
-/* The record's own size. Writes a u64 (8 bytes); -9, -12. */
+/* The record's own size. Writes a u64 (8 bytes); -1, -9, -12. */
 int64_t msft_func_record_size(
     const uint8_t *lib, size_t lib_len, size_t at, size_t len, uint8_t *out, size_t out_len);
 
-/* The type field of the result. Replies the 32 bits of an i32; -9. */
+/* The type field of the result. Replies the 32 bits of an i32; -1, -9. */
 int64_t msft_func_datatype(const uint8_t *lib, size_t lib_len, size_t at, size_t len);
 
-/* FUNCFLAG bits. Replies a u32; -9. */
+/* FUNCFLAG bits. Replies a u32; -1, -9. */
 int64_t msft_func_flags(const uint8_t *lib, size_t lib_len, size_t at, size_t len);
 
-/* Its offset in the vtable. Replies the 16 bits of an i16; -9. */
+/* Its offset in the vtable. Replies the 16 bits of an i16; -1, -9. */
 int64_t msft_func_vtable_offset(const uint8_t *lib, size_t lib_len, size_t at, size_t len);
 
-/* The size of its FUNCDESC. Replies the 16 bits of an i16; -9. */
+/* The size of its FUNCDESC. Replies the 16 bits of an i16; -1, -9. */
 int64_t msft_func_funcdesc_size(const uint8_t *lib, size_t lib_len, size_t at, size_t len);
 
 /* Function kind (bits 0 to 2), invoke kind (3 to 6), custom data (7), calling convention (8 to
-   11), default values (12). Replies a u32; -9. */
+   11), default values (12). Replies a u32; -1, -9. */
 int64_t msft_func_fkccic(const uint8_t *lib, size_t lib_len, size_t at, size_t len);
 
-/* FUNCKIND: 0 virtual, 1 pure virtual, 2 non-virtual, 3 static, 4 dispatch. Replies a u8; -9. */
+/* FUNCKIND: 0 virtual, 1 pure virtual, 2 non-virtual, 3 static, 4 dispatch. Replies a u8; -1,
+   -9. */
 int64_t msft_func_func_kind(const uint8_t *lib, size_t lib_len, size_t at, size_t len);
 
 /* INVOKEKIND: 1 function, 2 property get, 4 property put, 8 property put by reference. Replies a
-   u8; -9. */
+   u8; -1, -9. */
 int64_t msft_func_invoke_kind(const uint8_t *lib, size_t lib_len, size_t at, size_t len);
 
-/* CALLCONV: 0 fastcall, 1 cdecl, 2 pascal, 4 stdcall. Replies a u8; -9. */
+/* CALLCONV: 0 fastcall, 1 cdecl, 2 pascal, 4 stdcall. Replies a u8; -1, -9. */
 int64_t msft_func_callconv(const uint8_t *lib, size_t lib_len, size_t at, size_t len);
 
-/* The number of parameters. Replies the 16 bits of an i16; -9. */
+/* The number of parameters. Replies the 16 bits of an i16; -1, -9. */
 int64_t msft_func_nrargs(const uint8_t *lib, size_t lib_len, size_t at, size_t len);
 
-/* The number of optional parameters. Replies the 16 bits of an i16; -9. */
+/* The number of optional parameters. Replies the 16 bits of an i16; -1, -9. */
 int64_t msft_func_nroargs(const uint8_t *lib, size_t lib_len, size_t at, size_t len);
 
-/* Whether an array of default values stands before the parameters. Replies 0 or 1; -9. */
+/* Whether an array of default values stands before the parameters. Replies 0 or 1; -1, -9. */
 int64_t msft_func_has_default_values(const uint8_t *lib, size_t lib_len, size_t at, size_t len);
 
-/* Whether the function or its parameters have custom data. Replies 0 or 1; -9. */
+/* Whether the function or its parameters have custom data. Replies 0 or 1; -1, -9. */
 int64_t msft_func_has_cust_data(const uint8_t *lib, size_t lib_len, size_t at, size_t len);
 
 /* The OffsValue of parameter `index`'s default. The array of one word a parameter lies right
    before the parameters, at the record's end, even over its fixed part. Replies the 32 bits of
-   an i32; -9. */
+   an i32; -1, -9. */
 int64_t msft_func_default_value_offset(
     const uint8_t *lib, size_t lib_len, size_t at, size_t len, size_t index);
 
-/* Whether the record holds custom data offsets of its parameters. Replies 0 or 1; -9. */
+/* Whether the record holds custom data offsets of its parameters. Replies 0 or 1; -1, -9. */
 int64_t msft_func_has_arg_cust_data(const uint8_t *lib, size_t lib_len, size_t at, size_t len);
 
-/* Its help context, an attribute. Replies the 32 bits of an i32; -9. */
+/* Its help context, an attribute. Replies the 32 bits of an i32; -1, -9. */
 int64_t msft_func_help_context(const uint8_t *lib, size_t lib_len, size_t at, size_t len);
 
-/* The offset of its help string in the string table. Replies the 32 bits of an i32; -9. */
+/* The offset of its help string in the string table. Replies the 32 bits of an i32; -1, -9. */
 int64_t msft_func_help_string_offset(const uint8_t *lib, size_t lib_len, size_t at, size_t len);
 
 /* Of a module's function the entry point in its DLL: an offset in the string table, or an
-   ordinal. Replies the 32 bits of an i32; -9. */
+   ordinal. Replies the 32 bits of an i32; -1, -9. */
 int64_t msft_func_oentry(const uint8_t *lib, size_t lib_len, size_t at, size_t len);
 
-/* An attribute without a name. Replies the 32 bits of an i32; -9. */
+/* An attribute without a name. Replies the 32 bits of an i32; -1, -9. */
 int64_t msft_func_res9(const uint8_t *lib, size_t lib_len, size_t at, size_t len);
 
-/* An attribute without a name. Replies the 32 bits of an i32; -9. */
+/* An attribute without a name. Replies the 32 bits of an i32; -1, -9. */
 int64_t msft_func_res_a(const uint8_t *lib, size_t lib_len, size_t at, size_t len);
 
-/* The context of its help string, an attribute. Replies the 32 bits of an i32; -9. */
+/* The context of its help string, an attribute. Replies the 32 bits of an i32; -1, -9. */
 int64_t msft_func_helpstringcontext(const uint8_t *lib, size_t lib_len, size_t at, size_t len);
 
 /* The offset of the function's custom data in their directory. Replies the 32 bits of an i32;
-   -9. */
+   -1, -9. */
 int64_t msft_func_cust_data_offset(const uint8_t *lib, size_t lib_len, size_t at, size_t len);
 
-/* The offset of the custom data of parameter `arg_index`. Replies the 32 bits of an i32; -9. */
+/* The offset of the custom data of parameter `arg_index`. Replies the 32 bits of an i32; -1, -9. */
 int64_t msft_func_arg_cust_data_offset(
     const uint8_t *lib, size_t lib_len, size_t at, size_t len, size_t arg_index);
 
@@ -443,278 +458,283 @@ int64_t msft_kind_word(uint8_t raw, uint8_t *out, size_t out_len);
 int64_t msft_vt_name(uint16_t vt, uint8_t *out, size_t out_len);
 
 /* ---- typelib: the library's header ---- */
-/* The word behind the magic. Replies a u32; -9. */
+/* The word behind the magic. Replies a u32; -1 to -5. */
 int64_t msft_format_version(const uint8_t *lib, size_t lib_len);
 
-/* The offset of the library's GUID in the GUID table. Replies the 32 bits of an i32; -9. */
+/* The offset of the library's GUID in the GUID table. Replies the 32 bits of an i32; -1 to -5. */
 int64_t msft_lib_guid_offset(const uint8_t *lib, size_t lib_len);
 
-/* The library's locale. Replies a u32; -9. */
+/* The library's locale. Replies a u32; -1 to -5. */
 int64_t msft_lcid(const uint8_t *lib, size_t lib_len);
 
-/* The second locale. Replies a u32; -9. */
+/* The second locale. Replies a u32; -1 to -5. */
 int64_t msft_lcid2(const uint8_t *lib, size_t lib_len);
 
-/* SYSKIND in bits 0 to 3; bit 8 where a help DLL is named. Replies a u32; -9. */
+/* SYSKIND in bits 0 to 3; bit 8 where a help DLL is named. Replies a u32; -1 to -5. */
 int64_t msft_varflags(const uint8_t *lib, size_t lib_len);
 
-/* SYSKIND: 0 Win16, 1 Win32, 2 Mac, 3 Win64. Replies a u8; -9. */
+/* SYSKIND: 0 Win16, 1 Win32, 2 Mac, 3 Win64. Replies a u8; -1 to -5. */
 int64_t msft_syskind(const uint8_t *lib, size_t lib_len);
 
-/* Whether a help DLL is named. Replies 0 or 1; -9. */
+/* Whether a help DLL is named. Replies 0 or 1; -1 to -5. */
 int64_t msft_has_help_dll(const uint8_t *lib, size_t lib_len);
 
-/* Major in the low half, minor in the high half. Replies a u32; -9. */
+/* Major in the low half, minor in the high half. Replies a u32; -1 to -5. */
 int64_t msft_version(const uint8_t *lib, size_t lib_len);
 
-/* The major version. Replies a u16; -9. */
+/* The major version. Replies a u16; -1 to -5. */
 int64_t msft_version_major(const uint8_t *lib, size_t lib_len);
 
-/* The minor version. Replies a u16; -9. */
+/* The minor version. Replies a u16; -1 to -5. */
 int64_t msft_version_minor(const uint8_t *lib, size_t lib_len);
 
-/* LIBFLAG bits. Replies a u32; -9. */
+/* LIBFLAG bits. Replies a u32; -1 to -5. */
 int64_t msft_flags(const uint8_t *lib, size_t lib_len);
 
 /* The offset of its help string in the string table; -1 where it has none. Replies the 32 bits
-   of an i32; -9. */
+   of an i32; -1 to -5. */
 int64_t msft_helpstring_offset(const uint8_t *lib, size_t lib_len);
 
-/* The context of the library's help string. Replies the 32 bits of an i32; -9. */
+/* The context of the library's help string. Replies the 32 bits of an i32; -1 to -5. */
 int64_t msft_helpstringcontext(const uint8_t *lib, size_t lib_len);
 
-/* The library's help context. Replies the 32 bits of an i32; -9. */
+/* The library's help context. Replies the 32 bits of an i32; -1 to -5. */
 int64_t msft_helpcontext(const uint8_t *lib, size_t lib_len);
 
-/* How many names the table holds. Replies the 32 bits of an i32; -9. */
+/* How many names the table holds. Replies the 32 bits of an i32; -1 to -5. */
 int64_t msft_nametablecount(const uint8_t *lib, size_t lib_len);
 
-/* How many characters the names have. Replies the 32 bits of an i32; -9. */
+/* How many characters the names have. Replies the 32 bits of an i32; -1 to -5. */
 int64_t msft_nametablechars(const uint8_t *lib, size_t lib_len);
 
-/* The offset of its name in the name table. Replies the 32 bits of an i32; -9. */
+/* The offset of its name in the name table. Replies the 32 bits of an i32; -1 to -5. */
 int64_t msft_name_offset(const uint8_t *lib, size_t lib_len);
 
 /* The offset of its help file's name in the string table; -1 where it has none. Replies the 32
-   bits of an i32; -9. */
+   bits of an i32; -1 to -5. */
 int64_t msft_helpfile_offset(const uint8_t *lib, size_t lib_len);
 
 /* The offset of its custom data in their directory; -1 where it has none. Replies the 32 bits of
-   an i32; -9. */
+   an i32; -1 to -5. */
 int64_t msft_custom_data_offset(const uint8_t *lib, size_t lib_len);
 
-/* The hreftype of IDispatch; -1 where there is none. Replies the 32 bits of an i32; -9. */
+/* The hreftype of IDispatch; -1 where there is none. Replies the 32 bits of an i32; -1 to -5. */
 int64_t msft_dispatchpos(const uint8_t *lib, size_t lib_len);
 
-/* How many imports it has. Replies the 32 bits of an i32; -9. */
+/* How many imports it has. Replies the 32 bits of an i32; -1 to -5. */
 int64_t msft_nimpinfos(const uint8_t *lib, size_t lib_len);
 
 /* 0 where the bytes are a library, else refusal 1 to 5. Replies 0; -1 to -5. */
 int64_t msft_parse(const uint8_t *lib, size_t lib_len);
 
-/* How many typeinfos the library has. Replies a u32. */
+/* How many typeinfos the library has. Replies a u32; -1 to -5. */
 int64_t msft_typeinfo_count(const uint8_t *lib, size_t lib_len);
 
 /* ---- typelib: segments, names, strings and GUIDs ---- */
-/* Where segment `index` lies; 9 where it is missing. Writes a place (16 bytes); -9, -12. */
+/* Where segment `index` lies; 9 where it is missing. Writes a place (16 bytes); -1 to -5, -9,
+   -12. */
 int64_t msft_segment(
     const uint8_t *lib, size_t lib_len, size_t index, uint8_t *out, size_t out_len);
 
-/* A name's bytes, in the code page the library was built in. Writes a place (16 bytes); -9, -12. */
+/* A name's bytes, in the code page the library was built in. Writes a place (16 bytes); -1 to
+   -5, -9, -12. */
 int64_t msft_name_bytes(
     const uint8_t *lib, size_t lib_len, int32_t offset, uint8_t *out, size_t out_len);
 
-/* A name, where it is UTF-8. Writes a place (16 bytes); -9, -12. */
+/* A name, where it is UTF-8. Writes a place (16 bytes); -1 to -5, -9, -12. */
 int64_t msft_name(const uint8_t *lib, size_t lib_len, int32_t offset, uint8_t *out, size_t out_len);
 
-/* A string of the string table, where it is UTF-8. Writes a place (16 bytes); -9, -12. */
+/* A string of the string table, where it is UTF-8. Writes a place (16 bytes); -1 to -5, -9, -12. */
 int64_t msft_string(
     const uint8_t *lib, size_t lib_len, int32_t offset, uint8_t *out, size_t out_len);
 
-/* The GUID at an offset of its table. Writes a place (16 bytes); -9, -12. */
+/* The GUID at an offset of its table. Writes a place (16 bytes); -1 to -5, -9, -12. */
 int64_t msft_guid(const uint8_t *lib, size_t lib_len, int32_t offset, uint8_t *out, size_t out_len);
 
 /* The bytes of a segment; 9 where it is missing or passes the file's end. Writes a place (16
-   bytes); -9, -12. */
+   bytes); -1 to -5, -9, -12. */
 int64_t msft_segment_data(
     const uint8_t *lib, size_t lib_len, size_t index, uint8_t *out, size_t out_len);
 
-/* The hash table of the GUIDs. Writes a place (16 bytes); -9, -12. */
+/* The hash table of the GUIDs. Writes a place (16 bytes); -1 to -5, -9, -12. */
 int64_t msft_guid_hash_data(const uint8_t *lib, size_t lib_len, uint8_t *out, size_t out_len);
 
-/* The hash table of the names. Writes a place (16 bytes); -9, -12. */
+/* The hash table of the names. Writes a place (16 bytes); -1 to -5, -9, -12. */
 int64_t msft_name_hash_data(const uint8_t *lib, size_t lib_len, uint8_t *out, size_t out_len);
 
-/* The library's own name, where it is UTF-8. Writes a place (16 bytes); -9, -12. */
+/* The library's own name, where it is UTF-8. Writes a place (16 bytes); -1 to -5, -9, -12. */
 int64_t msft_lib_name(const uint8_t *lib, size_t lib_len, uint8_t *out, size_t out_len);
 
-/* The library's own GUID. Writes a place (16 bytes); -9, -12. */
+/* The library's own GUID. Writes a place (16 bytes); -1 to -5, -9, -12. */
 int64_t msft_lib_guid(const uint8_t *lib, size_t lib_len, uint8_t *out, size_t out_len);
 
-/* The library's help string, where it is UTF-8. Writes a place (16 bytes); -9, -12. */
+/* The library's help string, where it is UTF-8. Writes a place (16 bytes); -1 to -5, -9, -12. */
 int64_t msft_lib_helpstring(const uint8_t *lib, size_t lib_len, uint8_t *out, size_t out_len);
 
 /* ---- typelib: typeinfos, and the identifiers and names of their members ---- */
-/* A typeinfo's byte offset in segment 0. Replies the 32 bits of an i32; -9. */
+/* A typeinfo's byte offset in segment 0. Replies the 32 bits of an i32; -1 to -5, -9. */
 int64_t msft_typeinfo_offset(const uint8_t *lib, size_t lib_len, size_t index);
 
-/* The typeinfo of that index. Writes a place (16 bytes); -6, -7, -8, -12. */
+/* The typeinfo of that index. Writes a place (16 bytes); -1 to -8, -12. */
 int64_t msft_typeinfo(
     const uint8_t *lib, size_t lib_len, size_t index, uint8_t *out, size_t out_len);
 
-/* The member identifier of function `index`. Replies the 32 bits of an i32; -9. */
+/* The member identifier of function `index`. Replies the 32 bits of an i32; -1, -9. */
 int64_t msft_func_memid(const uint8_t *lib, size_t lib_len, size_t at, size_t len, size_t index);
 
-/* The member identifier of variable `index`. Replies the 32 bits of an i32; -9. */
+/* The member identifier of variable `index`. Replies the 32 bits of an i32; -1, -9. */
 int64_t msft_var_memid(const uint8_t *lib, size_t lib_len, size_t at, size_t len, size_t index);
 
 /* The name offset of function `index`; -1 where it has no name of its own. Replies the 32 bits
-   of an i32; -9. */
+   of an i32; -1, -9. */
 int64_t msft_func_name_offset(
     const uint8_t *lib, size_t lib_len, size_t at, size_t len, size_t index);
 
-/* The name offset of variable `index`. Replies the 32 bits of an i32; -9. */
+/* The name offset of variable `index`. Replies the 32 bits of an i32; -1, -9. */
 int64_t msft_var_name_offset(
     const uint8_t *lib, size_t lib_len, size_t at, size_t len, size_t index);
 
-/* The name of function `index`, where it is UTF-8. Writes a place (16 bytes); -9, -12. */
+/* The name of function `index`, where it is UTF-8. Writes a place (16 bytes); -1 to -5, -9, -12. */
 int64_t msft_func_name(
     const uint8_t *lib, size_t lib_len, size_t at, size_t len, size_t index, uint8_t *out,
     size_t out_len);
 
-/* The name of variable `index`, where it is UTF-8. Writes a place (16 bytes); -9, -12. */
+/* The name of variable `index`, where it is UTF-8. Writes a place (16 bytes); -1 to -5, -9, -12. */
 int64_t msft_var_name(
     const uint8_t *lib, size_t lib_len, size_t at, size_t len, size_t index, uint8_t *out,
     size_t out_len);
 
 /* Name `k`, from 0, of the entries of a typeinfo, its own name left out. Writes a place (16
-   bytes); -9, -12. */
+   bytes); -1 to -5, -9, -12. */
 int64_t msft_member_name(
     const uint8_t *lib, size_t lib_len, size_t index, size_t k, uint8_t *out, size_t out_len);
 
 /* ---- typelib: descriptions of types, references and constants ---- */
 /* The type descriptor at an offset: its code, and what the code asks for. Writes two u32 (8
-   bytes); -9, -12. */
+   bytes); -1 to -5, -9, -12. */
 int64_t msft_type_desc(
     const uint8_t *lib, size_t lib_len, int32_t offset, uint8_t *out, size_t out_len);
 
-/* The array descriptor at an offset, with its bounds. Writes a place (16 bytes); -9, -12. */
+/* The array descriptor at an offset, with its bounds. Writes a place (16 bytes); -1 to -5, -9,
+   -12. */
 int64_t msft_array_desc(
     const uint8_t *lib, size_t lib_len, int32_t offset, uint8_t *out, size_t out_len);
 
-/* What a type field names, one level of it. Writes a description (3, 5 or 17 bytes); -9, -12. */
+/* What a type field names, one level of it. Writes a description (3, 5 or 17 bytes); -1 to -5,
+   -9, -12. */
 int64_t msft_type_description(
     const uint8_t *lib, size_t lib_len, int32_t datatype, uint8_t *out, size_t out_len);
 
-/* The import file at an offset of its table. Writes a place (16 bytes); -9, -12. */
+/* The import file at an offset of its table. Writes a place (16 bytes); -1 to -5, -9, -12. */
 int64_t msft_imp_file(
     const uint8_t *lib, size_t lib_len, int32_t offset, uint8_t *out, size_t out_len);
 
-/* The index of the typeinfo that an internal hreftype refers to. Writes a u64 (8 bytes); -9,
-   -12. */
+/* The index of the typeinfo that an internal hreftype refers to. Writes a u64 (8 bytes); -1 to
+   -5, -9, -12. */
 int64_t msft_resolve_hreftype(
     const uint8_t *lib, size_t lib_len, int32_t hreftype, uint8_t *out, size_t out_len);
 
 /* What an hreftype refers to, in this library or another. Writes a reference (9, 18 or 34
-   bytes); -9, -12. */
+   bytes); -1 to -5, -9, -12. */
 int64_t msft_resolve_hreftype_full(
     const uint8_t *lib, size_t lib_len, int32_t hreftype, uint8_t *out, size_t out_len);
 
 /* The constant that a record's word gives: inline where the word is negative, else at that
-   offset of the table. Writes a constant (2 to 19 bytes); -9, -12. */
+   offset of the table. Writes a constant (2 to 19 bytes); -1 to -5, -9, -12. */
 int64_t msft_const_value(
     const uint8_t *lib, size_t lib_len, int32_t word, uint8_t *out, size_t out_len);
 
 /* ---- iterators: cursors, and the walk along a chain ---- */
-/* The function records of a typeinfo. Writes a cursor (24 bytes); -9, -12. */
+/* The function records of a typeinfo. Writes a cursor (24 bytes); -1, -9, -12. */
 int64_t msft_funcs(
     const uint8_t *lib, size_t lib_len, size_t at, size_t len, uint8_t *out, size_t out_len);
 
 /* The variable records of a typeinfo, behind its function records. Writes a cursor (24 bytes);
-   -9, -12. */
+   -1, -9, -12. */
 int64_t msft_vars(
     const uint8_t *lib, size_t lib_len, size_t at, size_t len, uint8_t *out, size_t out_len);
 
-/* The parameters of a function, at the end of its record. Writes a cursor (24 bytes); -9, -12. */
+/* The parameters of a function, at the end of its record. Writes a cursor (24 bytes); -1, -9,
+   -12. */
 int64_t msft_params(
     const uint8_t *lib, size_t lib_len, size_t at, size_t len, uint8_t *out, size_t out_len);
 
-/* The entries of the GUID table. Writes a cursor (16 bytes); -12. */
+/* The entries of the GUID table. Writes a cursor (16 bytes); -1 to -5, -12. */
 int64_t msft_guids(const uint8_t *lib, size_t lib_len, uint8_t *out, size_t out_len);
 
-/* The import records. Writes a cursor (16 bytes); -12. */
+/* The import records. Writes a cursor (16 bytes); -1 to -5, -12. */
 int64_t msft_imports(const uint8_t *lib, size_t lib_len, uint8_t *out, size_t out_len);
 
-/* The import files. Writes a cursor (16 bytes); -12. */
+/* The import files. Writes a cursor (16 bytes); -1 to -5, -12. */
 int64_t msft_imp_files(const uint8_t *lib, size_t lib_len, uint8_t *out, size_t out_len);
 
-/* The entries of the name table. Writes a cursor (24 bytes); -12. */
+/* The entries of the name table. Writes a cursor (24 bytes); -1 to -5, -12. */
 int64_t msft_names(const uint8_t *lib, size_t lib_len, uint8_t *out, size_t out_len);
 
 /* The cursor over the types that `ti` implements, at the first. Writes a chain cursor (20
-   bytes); -9, -12. */
+   bytes); -1 to -5, -9, -12. */
 int64_t msft_impl_types(
     const uint8_t *lib, size_t lib_len, size_t at, size_t len, uint8_t *out, size_t out_len);
 
 /* The function record at the cursor, and the next cursor. Writes a place and a cursor (40
-   bytes); -9, -12. */
+   bytes); -1, -9, -12. */
 int64_t msft_func_step(
     const uint8_t *lib, size_t lib_len, size_t pos, size_t end, size_t remaining, uint8_t *out,
     size_t out_len);
 
 /* The variable record at the cursor, and the next cursor. Writes a place and a cursor (40
-   bytes); -9, -12. */
+   bytes); -1, -9, -12. */
 int64_t msft_var_step(
     const uint8_t *lib, size_t lib_len, size_t pos, size_t end, size_t remaining, uint8_t *out,
     size_t out_len);
 
-/* The parameter at the cursor, and the next cursor. Writes a place and a cursor (40 bytes); -9,
-   -12. */
+/* The parameter at the cursor, and the next cursor. Writes a place and a cursor (40 bytes); -1,
+   -9, -12. */
 int64_t msft_param_step(
     const uint8_t *lib, size_t lib_len, size_t pos, size_t end, size_t remaining, uint8_t *out,
     size_t out_len);
 
-/* The GUID entry at the cursor, and the next cursor. Writes a place and a cursor (32 bytes); -9,
-   -12. */
+/* The GUID entry at the cursor, and the next cursor. Writes a place and a cursor (32 bytes); -1,
+   -9, -12. */
 int64_t msft_guid_step(
     const uint8_t *lib, size_t lib_len, size_t pos, size_t end, uint8_t *out, size_t out_len);
 
 /* The import record at the cursor, and the next cursor. Writes a place and a cursor (32 bytes);
-   -9, -12. */
+   -1, -9, -12. */
 int64_t msft_import_step(
     const uint8_t *lib, size_t lib_len, size_t pos, size_t end, uint8_t *out, size_t out_len);
 
 /* The import file at the cursor, and the next cursor. Writes a place and a cursor (32 bytes);
-   -9, -12. */
+   -1, -9, -12. */
 int64_t msft_imp_file_step(
     const uint8_t *lib, size_t lib_len, size_t pos, size_t end, uint8_t *out, size_t out_len);
 
 /* The name's entry at the cursor, and the next cursor. Writes a name's entry and a cursor (59
-   bytes); -9, -12. */
+   bytes); -1, -9, -12. */
 int64_t msft_name_step(
     const uint8_t *lib, size_t lib_len, size_t pos, size_t end, size_t start, uint8_t *out,
     size_t out_len);
 
 /* The typeinfo at the cursor, and the next cursor. After -6, -7 or -8, which are one entry's, go
-   on with index + 1. Writes a place and a cursor (24 bytes); -6, -7, -8, -9, -12. */
+   on with index + 1. Writes a place and a cursor (24 bytes); -1 to -9, -12. */
 int64_t msft_typeinfo_step(
     const uint8_t *lib, size_t lib_len, size_t index, uint8_t *out, size_t out_len);
 
 /* The reference record at the cursor, and the next cursor. Writes a place and a chain cursor (36
-   bytes); -9, -12. */
+   bytes); -1, -9, -12. */
 int64_t msft_impl_type_step(
     const uint8_t *lib, size_t lib_len, size_t at, size_t len, uint32_t next, uint8_t *out,
     size_t out_len);
 
-/* How many records the chain has from the cursor on. Writes a u64 (8 bytes); -10, -12. */
+/* How many records the chain has from the cursor on. Writes a u64 (8 bytes); -1, -10, -12. */
 int64_t msft_walk(
     const uint8_t *lib, size_t lib_len, size_t at, size_t len, uint32_t next, uint8_t *out,
     size_t out_len);
 
-/* The typeinfos of the library, from the first. Writes a cursor (8 bytes); -12. */
+/* The typeinfos of the library, from the first. Writes a cursor (8 bytes); -1 to -5, -12. */
 int64_t msft_typeinfos(const uint8_t *lib, size_t lib_len, uint8_t *out, size_t out_len);
 
-/* How many typeinfos are left. Writes a u64 (8 bytes); -12. */
+/* How many typeinfos are left. Writes a u64 (8 bytes); -1 to -5, -12. */
 int64_t msft_typeinfo_size_hint(
     const uint8_t *lib, size_t lib_len, size_t index, uint8_t *out, size_t out_len);
 

@@ -24,9 +24,11 @@ pub struct Export {
     rust: Rust,
 }
 
-/// What an answer is made from: a library that can be parsed, its bytes, or numbers alone.
+/// What an answer is made from: a library that can be parsed; the lent bytes alone, which need be no
+/// library; the bytes that a sheet is made from; or numbers alone.
 enum Rust {
     Library(fn(&TypeLib, Numbers) -> Answer),
+    Lent(fn(&TypeLib, Numbers) -> Answer),
     Bytes(fn(&[u8]) -> Answer),
     Alone(fn(Numbers) -> Answer),
 }
@@ -49,13 +51,20 @@ impl<'a> Parsed<'a> {
 }
 
 impl Export {
+    /// Whether the export reads the lent bytes alone, which need be no library.
+    pub fn needs_no_library(&self) -> bool {
+        matches!(self.rust, Rust::Lent(_))
+    }
+
     /// What the export should answer.
     pub fn expected(&self, input: &Parsed, numbers: Numbers) -> Answer {
         match (&self.rust, &input.lib) {
             (Rust::Alone(answer), _) => answer(numbers),
             (Rust::Bytes(answer), _) => answer(input.bytes),
+            (_, Err(refusal::OVER_LONG)) => Answer::Refused(refusal::OVER_LONG),
             (Rust::Library(_), Err(number)) => Answer::Refused(*number),
-            (Rust::Library(answer), Ok(lib)) => answer(lib, numbers),
+            (Rust::Library(answer) | Rust::Lent(answer), Ok(lib)) => answer(lib, numbers),
+            (Rust::Lent(answer), Err(_)) => answer(&TypeLib::beside(input.bytes), numbers),
         }
     }
 }

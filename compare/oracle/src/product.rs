@@ -58,6 +58,7 @@ calls! {
 unsafe extern "C" {
     fn msft_parse(lib: *const u8, n: usize) -> i64;
     fn msft_version(lib: *const u8, n: usize) -> i64;
+    fn msft_typeinfo_flags(lib: *const u8, n: usize, at: usize, len: usize) -> i64;
     fn msft_typeinfo_count(lib: *const u8, n: usize) -> i64;
 }
 
@@ -72,6 +73,10 @@ pub fn parse(lib: &[u8]) -> i64 {
 
 pub fn version(lib: &[u8]) -> i64 {
     unsafe { msft_version(lib.as_ptr(), lib.len()) }
+}
+
+pub fn typeinfo_flags(lib: &[u8], at: usize, len: usize) -> i64 {
+    unsafe { msft_typeinfo_flags(lib.as_ptr(), lib.len(), at, len) }
 }
 
 pub fn typeinfo_count(lib: &[u8]) -> usize {

@@ -15,7 +15,7 @@ pub extern "C" fn msft_format_version(s: &[u8]) -> i64
 {
     let p = TypeLib::parse(s);
     let lib = p.lib;
-    reply::of_u32(p.number, lib.format_version(s))
+    reply::behind(p.number, reply::of_u32(lib.format_version(s)))
 }
 
 // The offset of the library's GUID in the GUID table.
@@ -25,7 +25,7 @@ pub extern "C" fn msft_lib_guid_offset(s: &[u8]) -> i64
 {
     let p = TypeLib::parse(s);
     let lib = p.lib;
-    reply::of_i32(p.number, lib.lib_guid_offset(s))
+    reply::behind(p.number, reply::of_i32(lib.lib_guid_offset(s)))
 }
 
 // The library's locale.
@@ -35,7 +35,7 @@ pub extern "C" fn msft_lcid(s: &[u8]) -> i64
 {
     let p = TypeLib::parse(s);
     let lib = p.lib;
-    reply::of_u32(p.number, lib.lcid(s))
+    reply::behind(p.number, reply::of_u32(lib.lcid(s)))
 }
 
 #[no_mangle]
@@ -44,7 +44,7 @@ pub extern "C" fn msft_lcid2(s: &[u8]) -> i64
 {
     let p = TypeLib::parse(s);
     let lib = p.lib;
-    reply::of_u32(p.number, lib.lcid2(s))
+    reply::behind(p.number, reply::of_u32(lib.lcid2(s)))
 }
 
 // SYSKIND in bits 0 to 3; bit 8 where a help DLL is named.
@@ -54,7 +54,7 @@ pub extern "C" fn msft_varflags(s: &[u8]) -> i64
 {
     let p = TypeLib::parse(s);
     let lib = p.lib;
-    reply::of_u32(p.number, lib.varflags(s))
+    reply::behind(p.number, reply::of_u32(lib.varflags(s)))
 }
 
 // SYSKIND: 0 Win16, 1 Win32, 2 Mac, 3 Win64.
@@ -64,7 +64,7 @@ pub extern "C" fn msft_syskind(s: &[u8]) -> i64
 {
     let p = TypeLib::parse(s);
     let lib = p.lib;
-    reply::of_u8(p.number, lib.syskind(s))
+    reply::behind(p.number, reply::of_u8(lib.syskind(s)))
 }
 
 #[no_mangle]
@@ -73,7 +73,7 @@ pub extern "C" fn msft_has_help_dll(s: &[u8]) -> i64
 {
     let p = TypeLib::parse(s);
     let lib = p.lib;
-    reply::of_bool(p.number, lib.has_help_dll(s))
+    reply::behind(p.number, reply::of_bool(lib.has_help_dll(s)))
 }
 
 // Major in the low half, minor in the high half.
@@ -83,7 +83,7 @@ pub extern "C" fn msft_version(s: &[u8]) -> i64
 {
     let p = TypeLib::parse(s);
     let lib = p.lib;
-    reply::of_u32(p.number, lib.version(s))
+    reply::behind(p.number, reply::of_u32(lib.version(s)))
 }
 
 #[no_mangle]
@@ -92,7 +92,7 @@ pub extern "C" fn msft_version_major(s: &[u8]) -> i64
 {
     let p = TypeLib::parse(s);
     let lib = p.lib;
-    reply::of_u16(p.number, lib.version_major(s))
+    reply::behind(p.number, reply::of_u16(lib.version_major(s)))
 }
 
 #[no_mangle]
@@ -101,7 +101,7 @@ pub extern "C" fn msft_version_minor(s: &[u8]) -> i64
 {
     let p = TypeLib::parse(s);
     let lib = p.lib;
-    reply::of_u16(p.number, lib.version_minor(s))
+    reply::behind(p.number, reply::of_u16(lib.version_minor(s)))
 }
 
 // LIBFLAG bits.
@@ -111,7 +111,7 @@ pub extern "C" fn msft_flags(s: &[u8]) -> i64
 {
     let p = TypeLib::parse(s);
     let lib = p.lib;
-    reply::of_u32(p.number, lib.flags(s))
+    reply::behind(p.number, reply::of_u32(lib.flags(s)))
 }
 
 // The offset of its help string in the string table; -1 where it has none.
@@ -121,7 +121,7 @@ pub extern "C" fn msft_helpstring_offset(s: &[u8]) -> i64
 {
     let p = TypeLib::parse(s);
     let lib = p.lib;
-    reply::of_i32(p.number, lib.helpstring_offset(s))
+    reply::behind(p.number, reply::of_i32(lib.helpstring_offset(s)))
 }
 
 #[no_mangle]
@@ -130,7 +130,7 @@ pub extern "C" fn msft_helpstringcontext(s: &[u8]) -> i64
 {
     let p = TypeLib::parse(s);
     let lib = p.lib;
-    reply::of_i32(p.number, lib.helpstringcontext(s))
+    reply::behind(p.number, reply::of_i32(lib.helpstringcontext(s)))
 }
 
 #[no_mangle]
@@ -139,7 +139,7 @@ pub extern "C" fn msft_helpcontext(s: &[u8]) -> i64
 {
     let p = TypeLib::parse(s);
     let lib = p.lib;
-    reply::of_i32(p.number, lib.helpcontext(s))
+    reply::behind(p.number, reply::of_i32(lib.helpcontext(s)))
 }
 
 #[no_mangle]
@@ -148,7 +148,7 @@ pub extern "C" fn msft_nametablecount(s: &[u8]) -> i64
 {
     let p = TypeLib::parse(s);
     let lib = p.lib;
-    reply::of_i32(p.number, lib.nametablecount(s))
+    reply::behind(p.number, reply::of_i32(lib.nametablecount(s)))
 }
 
 #[no_mangle]
@@ -157,7 +157,7 @@ pub extern "C" fn msft_nametablechars(s: &[u8]) -> i64
 {
     let p = TypeLib::parse(s);
     let lib = p.lib;
-    reply::of_i32(p.number, lib.nametablechars(s))
+    reply::behind(p.number, reply::of_i32(lib.nametablechars(s)))
 }
 
 // The offset of its name in the name table.
@@ -167,7 +167,7 @@ pub extern "C" fn msft_name_offset(s: &[u8]) -> i64
 {
     let p = TypeLib::parse(s);
     let lib = p.lib;
-    reply::of_i32(p.number, lib.name_offset(s))
+    reply::behind(p.number, reply::of_i32(lib.name_offset(s)))
 }
 
 // The offset of its help file's name in the string table; -1 where it has none.
@@ -177,7 +177,7 @@ pub extern "C" fn msft_helpfile_offset(s: &[u8]) -> i64
 {
     let p = TypeLib::parse(s);
     let lib = p.lib;
-    reply::of_i32(p.number, lib.helpfile_offset(s))
+    reply::behind(p.number, reply::of_i32(lib.helpfile_offset(s)))
 }
 
 // The offset of its custom data in their directory; -1 where it has none.
@@ -187,7 +187,7 @@ pub extern "C" fn msft_custom_data_offset(s: &[u8]) -> i64
 {
     let p = TypeLib::parse(s);
     let lib = p.lib;
-    reply::of_i32(p.number, lib.custom_data_offset(s))
+    reply::behind(p.number, reply::of_i32(lib.custom_data_offset(s)))
 }
 
 // The hreftype of IDispatch; -1 where there is none.
@@ -197,7 +197,7 @@ pub extern "C" fn msft_dispatchpos(s: &[u8]) -> i64
 {
     let p = TypeLib::parse(s);
     let lib = p.lib;
-    reply::of_i32(p.number, lib.dispatchpos(s))
+    reply::behind(p.number, reply::of_i32(lib.dispatchpos(s)))
 }
 
 // How many imports it has.
@@ -207,7 +207,7 @@ pub extern "C" fn msft_nimpinfos(s: &[u8]) -> i64
 {
     let p = TypeLib::parse(s);
     let lib = p.lib;
-    reply::of_i32(p.number, lib.nimpinfos(s))
+    reply::behind(p.number, reply::of_i32(lib.nimpinfos(s)))
 }
 
 // 0 where the bytes are a library, else refusal 1 to 5.
@@ -215,7 +215,7 @@ pub extern "C" fn msft_nimpinfos(s: &[u8]) -> i64
 pub extern "C" fn msft_parse(s: &[u8]) -> i64
     ensures { λ r. ⌜ r ≡ reply (past (now (s .entry)) (value 0)) ⌝ }
 {
-    reply::of_u32(reply::refusal(s), U32Answer::Value(0))
+    reply::behind(reply::refusal(s), 0)
 }
 
 // How many typeinfos the library has.
@@ -225,5 +225,8 @@ pub extern "C" fn msft_typeinfo_count(s: &[u8]) -> i64
 {
     let p = TypeLib::parse(s);
     let lib = p.lib;
-    reply::of_u32(p.number, U32Answer::Value(lib.typeinfo_count() as u32))
+    reply::behind(
+        p.number,
+        reply::of_u32(U32Answer::Value(lib.typeinfo_count() as u32)),
+    )
 }

@@ -16,24 +16,21 @@ use table_cursors::iterators::NameCursor;
 use table_cursors::iterators::TypeInfoCursor;
 use typelib::TypeLib;
 ghost use Rattle.replies.specs.At.{chainAt, funcAt, funcsAt, guidsAt, impFilesAt, importsAt, namesAt, paramsAt, typeinfoAt, typeinfosAt, varsAt};
-ghost use Rattle.replies.specs.Call.{laid, libraryIn, outcome, past};
-ghost use Rattle.rows.specs.Values.{chainCursor, chainStep, cursor, entryStep, funcNumbers, guidNumbers, impFileNumbers, importNumbers, nameNumbers, paramNumbers, size, step, typeinfoNumbers, varNumbers};
-ghost use Rattle.records.specs.Answer.{map, value};
-ghost use Rattle.impltypes.specs.Chain.{implTypeStep, implTypesOf, walkOf};
+ghost use Rattle.replies.specs.Call.{laid, outcome};
+ghost use Rattle.rows.specs.Values.{chainStep, cursor, entryStep, funcNumbers, guidNumbers, impFileNumbers, importNumbers, paramNumbers, size, step, varNumbers};
+ghost use Rattle.records.specs.Answer.{map};
+ghost use Rattle.impltypes.specs.Chain.{implTypeStep, walkOf};
 ghost use Rattle.cursors.specs.Cursors.{funcStep, funcsOf, paramStep, paramsOf, varStep, varsOf};
-ghost use Rattle.table_cursors.specs.Cursors.{guidStep, guidsOf, impFileStep, impFilesOf, importStep, importsOf, nameStep, namesOf, typeinfoStep};
-ghost use Prim.Native.Nat.{_-_};
+ghost use Rattle.table_cursors.specs.Cursors.{guidStep, impFileStep, importStep, nameStep};
+ghost use Rattle.msft_typelib.specs.Rows.{guidsRow, impFilesRow, implTypesRow, importsRow, namesRow, typeinfoStepRow, typeinfosRow, typesLeftRow};
 ghost use mathlib.Core.Path.{_≡_};
 
 // The function records of a typeinfo.
 #[no_mangle]
 pub extern "C" fn msft_funcs(s: &[u8], at: usize, len: usize, out: &mut [u8]) -> i64
-    ensures { λ r. ⌜ outcome r (now (out .exit)) ≡ laid (past (now (s .entry)) (map (cursor funcNumbers) (funcsOf (now (s .entry)) (typeinfoAt at len)))) (now (out .entry)) ⌝ }
+    ensures { λ r. ⌜ outcome r (now (out .exit)) ≡ laid (map (cursor funcNumbers) (funcsOf (now (s .entry)) (typeinfoAt at len))) (now (out .entry)) ⌝ }
 {
-    let p = TypeLib::parse(s);
-    let lib = p.lib;
     reply::lay(
-        p.number,
         rows::of_funcs(iterators::funcs(s, TypeInfoEntry { at, len })),
         out,
     )
@@ -42,12 +39,9 @@ pub extern "C" fn msft_funcs(s: &[u8], at: usize, len: usize, out: &mut [u8]) ->
 // The variable records of a typeinfo, behind its function records.
 #[no_mangle]
 pub extern "C" fn msft_vars(s: &[u8], at: usize, len: usize, out: &mut [u8]) -> i64
-    ensures { λ r. ⌜ outcome r (now (out .exit)) ≡ laid (past (now (s .entry)) (map (cursor varNumbers) (varsOf (now (s .entry)) (typeinfoAt at len)))) (now (out .entry)) ⌝ }
+    ensures { λ r. ⌜ outcome r (now (out .exit)) ≡ laid (map (cursor varNumbers) (varsOf (now (s .entry)) (typeinfoAt at len))) (now (out .entry)) ⌝ }
 {
-    let p = TypeLib::parse(s);
-    let lib = p.lib;
     reply::lay(
-        p.number,
         rows::of_vars(iterators::vars(s, TypeInfoEntry { at, len })),
         out,
     )
@@ -56,12 +50,9 @@ pub extern "C" fn msft_vars(s: &[u8], at: usize, len: usize, out: &mut [u8]) -> 
 // The parameters of a function, at the end of its record.
 #[no_mangle]
 pub extern "C" fn msft_params(s: &[u8], at: usize, len: usize, out: &mut [u8]) -> i64
-    ensures { λ r. ⌜ outcome r (now (out .exit)) ≡ laid (past (now (s .entry)) (map (cursor paramNumbers) (paramsOf (now (s .entry)) (funcAt at len)))) (now (out .entry)) ⌝ }
+    ensures { λ r. ⌜ outcome r (now (out .exit)) ≡ laid (map (cursor paramNumbers) (paramsOf (now (s .entry)) (funcAt at len))) (now (out .entry)) ⌝ }
 {
-    let p = TypeLib::parse(s);
-    let lib = p.lib;
     reply::lay(
-        p.number,
         rows::of_params(iterators::params(s, FuncRecord { at, len })),
         out,
     )
@@ -70,11 +61,11 @@ pub extern "C" fn msft_params(s: &[u8], at: usize, len: usize, out: &mut [u8]) -
 // The entries of the GUID table.
 #[no_mangle]
 pub extern "C" fn msft_guids(s: &[u8], out: &mut [u8]) -> i64
-    ensures { λ r. ⌜ outcome r (now (out .exit)) ≡ laid (past (now (s .entry)) (value (cursor guidNumbers (guidsOf (now (s .entry)) (libraryIn (now (s .entry))))))) (now (out .entry)) ⌝ }
+    ensures { λ r. ⌜ outcome r (now (out .exit)) ≡ laid (guidsRow (now (s .entry))) (now (out .entry)) ⌝ }
 {
     let p = TypeLib::parse(s);
     let lib = p.lib;
-    reply::lay(
+    reply::lay_behind(
         p.number,
         rows::of_guids(table_cursors::iterators::guids(lib, s)),
         out,
@@ -84,11 +75,11 @@ pub extern "C" fn msft_guids(s: &[u8], out: &mut [u8]) -> i64
 // The import records.
 #[no_mangle]
 pub extern "C" fn msft_imports(s: &[u8], out: &mut [u8]) -> i64
-    ensures { λ r. ⌜ outcome r (now (out .exit)) ≡ laid (past (now (s .entry)) (value (cursor importNumbers (importsOf (now (s .entry)) (libraryIn (now (s .entry))))))) (now (out .entry)) ⌝ }
+    ensures { λ r. ⌜ outcome r (now (out .exit)) ≡ laid (importsRow (now (s .entry))) (now (out .entry)) ⌝ }
 {
     let p = TypeLib::parse(s);
     let lib = p.lib;
-    reply::lay(
+    reply::lay_behind(
         p.number,
         rows::of_imports(table_cursors::iterators::imports(lib, s)),
         out,
@@ -98,11 +89,11 @@ pub extern "C" fn msft_imports(s: &[u8], out: &mut [u8]) -> i64
 // The import files.
 #[no_mangle]
 pub extern "C" fn msft_imp_files(s: &[u8], out: &mut [u8]) -> i64
-    ensures { λ r. ⌜ outcome r (now (out .exit)) ≡ laid (past (now (s .entry)) (value (cursor impFileNumbers (impFilesOf (now (s .entry)) (libraryIn (now (s .entry))))))) (now (out .entry)) ⌝ }
+    ensures { λ r. ⌜ outcome r (now (out .exit)) ≡ laid (impFilesRow (now (s .entry))) (now (out .entry)) ⌝ }
 {
     let p = TypeLib::parse(s);
     let lib = p.lib;
-    reply::lay(
+    reply::lay_behind(
         p.number,
         rows::of_imp_files(table_cursors::iterators::imp_files(lib, s)),
         out,
@@ -112,11 +103,11 @@ pub extern "C" fn msft_imp_files(s: &[u8], out: &mut [u8]) -> i64
 // The entries of the name table.
 #[no_mangle]
 pub extern "C" fn msft_names(s: &[u8], out: &mut [u8]) -> i64
-    ensures { λ r. ⌜ outcome r (now (out .exit)) ≡ laid (past (now (s .entry)) (value (cursor nameNumbers (namesOf (now (s .entry)) (libraryIn (now (s .entry))))))) (now (out .entry)) ⌝ }
+    ensures { λ r. ⌜ outcome r (now (out .exit)) ≡ laid (namesRow (now (s .entry))) (now (out .entry)) ⌝ }
 {
     let p = TypeLib::parse(s);
     let lib = p.lib;
-    reply::lay(
+    reply::lay_behind(
         p.number,
         rows::of_names(table_cursors::iterators::names(lib, s)),
         out,
@@ -126,11 +117,11 @@ pub extern "C" fn msft_names(s: &[u8], out: &mut [u8]) -> i64
 // The cursor over the types that `ti` implements, at the first.
 #[no_mangle]
 pub extern "C" fn msft_impl_types(s: &[u8], at: usize, len: usize, out: &mut [u8]) -> i64
-    ensures { λ r. ⌜ outcome r (now (out .exit)) ≡ laid (past (now (s .entry)) (map chainCursor (implTypesOf (now (s .entry)) (libraryIn (now (s .entry))) (typeinfoAt at len)))) (now (out .entry)) ⌝ }
+    ensures { λ r. ⌜ outcome r (now (out .exit)) ≡ laid (implTypesRow (now (s .entry)) (typeinfoAt at len)) (now (out .entry)) ⌝ }
 {
     let p = TypeLib::parse(s);
     let lib = p.lib;
-    reply::lay(
+    reply::lay_behind(
         p.number,
         rows::of_impl_types(impltypes::impl_types(lib, s, TypeInfoEntry { at, len })),
         out,
@@ -145,10 +136,9 @@ pub extern "C" fn msft_func_step(
     remaining: usize,
     out: &mut [u8],
 ) -> i64
-    ensures { λ r. ⌜ outcome r (now (out .exit)) ≡ laid (past (now (s .entry)) (step funcNumbers (funcStep (now (s .entry)) (funcsAt pos end remaining)))) (now (out .entry)) ⌝ }
+    ensures { λ r. ⌜ outcome r (now (out .exit)) ≡ laid (step funcNumbers (funcStep (now (s .entry)) (funcsAt pos end remaining))) (now (out .entry)) ⌝ }
 {
     reply::lay(
-        reply::refusal(s),
         rows::of_func_step(FuncCursor {
             pos,
             end,
@@ -166,10 +156,9 @@ pub extern "C" fn msft_var_step(
     remaining: usize,
     out: &mut [u8],
 ) -> i64
-    ensures { λ r. ⌜ outcome r (now (out .exit)) ≡ laid (past (now (s .entry)) (step varNumbers (varStep (now (s .entry)) (varsAt pos end remaining)))) (now (out .entry)) ⌝ }
+    ensures { λ r. ⌜ outcome r (now (out .exit)) ≡ laid (step varNumbers (varStep (now (s .entry)) (varsAt pos end remaining))) (now (out .entry)) ⌝ }
 {
     reply::lay(
-        reply::refusal(s),
         rows::of_var_step(VarCursor {
             pos,
             end,
@@ -187,10 +176,9 @@ pub extern "C" fn msft_param_step(
     remaining: usize,
     out: &mut [u8],
 ) -> i64
-    ensures { λ r. ⌜ outcome r (now (out .exit)) ≡ laid (past (now (s .entry)) (step paramNumbers (paramStep (now (s .entry)) (paramsAt pos end remaining)))) (now (out .entry)) ⌝ }
+    ensures { λ r. ⌜ outcome r (now (out .exit)) ≡ laid (step paramNumbers (paramStep (now (s .entry)) (paramsAt pos end remaining))) (now (out .entry)) ⌝ }
 {
     reply::lay(
-        reply::refusal(s),
         rows::of_param_step(ParamCursor {
             pos,
             end,
@@ -202,32 +190,23 @@ pub extern "C" fn msft_param_step(
 
 #[no_mangle]
 pub extern "C" fn msft_guid_step(s: &[u8], pos: usize, end: usize, out: &mut [u8]) -> i64
-    ensures { λ r. ⌜ outcome r (now (out .exit)) ≡ laid (past (now (s .entry)) (step guidNumbers (guidStep (now (s .entry)) (guidsAt pos end)))) (now (out .entry)) ⌝ }
+    ensures { λ r. ⌜ outcome r (now (out .exit)) ≡ laid (step guidNumbers (guidStep (now (s .entry)) (guidsAt pos end))) (now (out .entry)) ⌝ }
 {
-    reply::lay(
-        reply::refusal(s),
-        rows::of_guid_step(GuidCursor { pos, end }.step(s)),
-        out,
-    )
+    reply::lay(rows::of_guid_step(GuidCursor { pos, end }.step(s)), out)
 }
 
 #[no_mangle]
 pub extern "C" fn msft_import_step(s: &[u8], pos: usize, end: usize, out: &mut [u8]) -> i64
-    ensures { λ r. ⌜ outcome r (now (out .exit)) ≡ laid (past (now (s .entry)) (step importNumbers (importStep (now (s .entry)) (importsAt pos end)))) (now (out .entry)) ⌝ }
+    ensures { λ r. ⌜ outcome r (now (out .exit)) ≡ laid (step importNumbers (importStep (now (s .entry)) (importsAt pos end))) (now (out .entry)) ⌝ }
 {
-    reply::lay(
-        reply::refusal(s),
-        rows::of_import_step(ImportCursor { pos, end }.step(s)),
-        out,
-    )
+    reply::lay(rows::of_import_step(ImportCursor { pos, end }.step(s)), out)
 }
 
 #[no_mangle]
 pub extern "C" fn msft_imp_file_step(s: &[u8], pos: usize, end: usize, out: &mut [u8]) -> i64
-    ensures { λ r. ⌜ outcome r (now (out .exit)) ≡ laid (past (now (s .entry)) (step impFileNumbers (impFileStep (now (s .entry)) (impFilesAt pos end)))) (now (out .entry)) ⌝ }
+    ensures { λ r. ⌜ outcome r (now (out .exit)) ≡ laid (step impFileNumbers (impFileStep (now (s .entry)) (impFilesAt pos end))) (now (out .entry)) ⌝ }
 {
     reply::lay(
-        reply::refusal(s),
         rows::of_imp_file_step(ImpFileCursor { pos, end }.step(s)),
         out,
     )
@@ -241,10 +220,9 @@ pub extern "C" fn msft_name_step(
     start: usize,
     out: &mut [u8],
 ) -> i64
-    ensures { λ r. ⌜ outcome r (now (out .exit)) ≡ laid (past (now (s .entry)) (entryStep (nameStep (now (s .entry)) (namesAt pos end start)))) (now (out .entry)) ⌝ }
+    ensures { λ r. ⌜ outcome r (now (out .exit)) ≡ laid (entryStep (nameStep (now (s .entry)) (namesAt pos end start))) (now (out .entry)) ⌝ }
 {
     reply::lay(
-        reply::refusal(s),
         rows::of_name_step(NameCursor { pos, end, start }.step(s)),
         out,
     )
@@ -252,11 +230,11 @@ pub extern "C" fn msft_name_step(
 
 #[no_mangle]
 pub extern "C" fn msft_typeinfo_step(s: &[u8], index: usize, out: &mut [u8]) -> i64
-    ensures { λ r. ⌜ outcome r (now (out .exit)) ≡ laid (past (now (s .entry)) (step typeinfoNumbers (typeinfoStep (now (s .entry)) (libraryIn (now (s .entry))) (typeinfosAt index)))) (now (out .entry)) ⌝ }
+    ensures { λ r. ⌜ outcome r (now (out .exit)) ≡ laid (typeinfoStepRow (now (s .entry)) (typeinfosAt index)) (now (out .entry)) ⌝ }
 {
     let p = TypeLib::parse(s);
     let lib = p.lib;
-    reply::lay(
+    reply::lay_behind(
         p.number,
         rows::of_typeinfo_step(TypeInfoCursor { index }.step(s, lib)),
         out,
@@ -271,10 +249,9 @@ pub extern "C" fn msft_impl_type_step(
     next: u32,
     out: &mut [u8],
 ) -> i64
-    ensures { λ r. ⌜ outcome r (now (out .exit)) ≡ laid (past (now (s .entry)) (chainStep (implTypeStep (now (s .entry)) (chainAt at len next)))) (now (out .entry)) ⌝ }
+    ensures { λ r. ⌜ outcome r (now (out .exit)) ≡ laid (chainStep (implTypeStep (now (s .entry)) (chainAt at len next))) (now (out .entry)) ⌝ }
 {
     reply::lay(
-        reply::refusal(s),
         rows::of_impl_type_step(ImplTypeCursor {
             table: Place { at, len },
             next,
@@ -285,10 +262,9 @@ pub extern "C" fn msft_impl_type_step(
 
 #[no_mangle]
 pub extern "C" fn msft_walk(s: &[u8], at: usize, len: usize, next: u32, out: &mut [u8]) -> i64
-    ensures { λ r. ⌜ outcome r (now (out .exit)) ≡ laid (past (now (s .entry)) (map size (walkOf (now (s .entry)) (chainAt at len next)))) (now (out .entry)) ⌝ }
+    ensures { λ r. ⌜ outcome r (now (out .exit)) ≡ laid (map size (walkOf (now (s .entry)) (chainAt at len next))) (now (out .entry)) ⌝ }
 {
     reply::lay(
-        reply::refusal(s),
         rows::of_walk(ImplTypeCursor {
             table: Place { at, len },
             next,
@@ -300,12 +276,10 @@ pub extern "C" fn msft_walk(s: &[u8], at: usize, len: usize, next: u32, out: &mu
 // The typeinfos of the library, from the first.
 #[no_mangle]
 pub extern "C" fn msft_typeinfos(s: &[u8], out: &mut [u8]) -> i64
-    ensures { λ r. ⌜ outcome r (now (out .exit)) ≡ laid (past (now (s .entry)) (value (cursor typeinfoNumbers (typeinfosAt 0)))) (now (out .entry)) ⌝ }
+    ensures { λ r. ⌜ outcome r (now (out .exit)) ≡ laid (typeinfosRow (now (s .entry))) (now (out .entry)) ⌝ }
 {
-    let p = TypeLib::parse(s);
-    let lib = p.lib;
-    reply::lay(
-        p.number,
+    reply::lay_behind(
+        reply::refusal(s),
         rows::of_typeinfos(table_cursors::iterators::typeinfos()),
         out,
     )
@@ -314,10 +288,10 @@ pub extern "C" fn msft_typeinfos(s: &[u8], out: &mut [u8]) -> i64
 // How many typeinfos are left. (Of the other cursors that is the number `remaining`.)
 #[no_mangle]
 pub extern "C" fn msft_typeinfo_size_hint(s: &[u8], index: usize, out: &mut [u8]) -> i64
-    ensures { λ r. ⌜ outcome r (now (out .exit)) ≡ laid (past (now (s .entry)) (value (size (libraryIn (now (s .entry)) .count - index)))) (now (out .entry)) ⌝ }
+    ensures { λ r. ⌜ outcome r (now (out .exit)) ≡ laid (typesLeftRow (now (s .entry)) index) (now (out .entry)) ⌝ }
 {
     let p = TypeLib::parse(s);
     let lib = p.lib;
     let left = TypeInfoCursor { index }.size_hint(lib);
-    reply::lay(p.number, rows::of_size(UsizeAnswer::Value(left)), out)
+    reply::lay_behind(p.number, rows::of_size(UsizeAnswer::Value(left)), out)
 }

@@ -5,13 +5,13 @@ use replies::reply;
 ghost use mathlib.Core.Path.{_≡_};
 ghost use Rattle.records.specs.Answer.{map};
 ghost use Rattle.records.specs.Counted.{textAt};
-ghost use Rattle.replies.specs.Call.{laid, outcome, past};
+ghost use Rattle.replies.specs.Call.{laid, outcome};
 ghost use Rattle.rows.specs.Values.{place};
 
 // The entry's name, where it is UTF-8. (Its other readings are the numbers that a step laid out.)
 #[no_mangle]
 pub extern "C" fn msft_nameentry_name(s: &[u8], at: usize, len: usize, out: &mut [u8]) -> i64
-    ensures { λ r. ⌜ outcome r (now (out .exit)) ≡ laid (past (now (s .entry)) (map place (textAt (now (s .entry)) at len))) (now (out .entry)) ⌝ }
+    ensures { λ r. ⌜ outcome r (now (out .exit)) ≡ laid (map place (textAt (now (s .entry)) at len)) (now (out .entry)) ⌝ }
 {
     let text = Place { at, len };
     let entry = NameEntry {
@@ -22,5 +22,5 @@ pub extern "C" fn msft_nameentry_name(s: &[u8], at: usize, len: usize, out: &mut
         flags: 0,
         hashcode: 0,
     };
-    reply::lay(reply::refusal(s), rows::of_place(entry.name(s)), out)
+    reply::lay(rows::of_place(entry.name(s)), out)
 }

@@ -13,7 +13,7 @@ use Rattle.texts.specs.Text.{fitted, fronted}
 use Rattle.typelib.specs.declared.TypeLib.{TypeLib}
 use Rattle.typelib.specs.Header.{parseOf, parsed}
 
--- ---- every call that takes the library begins with `parse`
+-- ---- a call that reads the library begins with `parse` (one that reads a record or a cursor alone does not)
 
 -- the number that `parse` refuses with, or 0
 unfoldable pub refusalOf : List ℕ → ℕ
@@ -32,12 +32,21 @@ after (suc n) a = refused (suc n)
 abbrev pub past : {A : Type 0} → List ℕ → Answer A → Answer A
 past s a = after (refusalOf s) a
 
+-- the answer of a reading of the library that `parse` gives
+abbrev pub inLibrary : {A : Type 0} → List ℕ → (TypeLib → Answer A) → Answer A
+inLibrary s reading = past s (reading (libraryIn s))
+
 -- ---- one number of at most 32 bits is replied
 
 -- a number, or minus the number of the refusal
 unfoldable pub reply : Answer ℕ → ℤ
 reply (value n) = pos n
 reply (refused n) = negℤ (pos n)
+
+-- the reply, unless a number other than 0 was refused before it (`behind-reply` of `CallLaws`)
+unfoldable pub replyBehind : ℕ → ℤ → ℤ
+replyBehind zero z = z
+replyBehind (suc n) z = negℤ (pos (suc n))
 
 -- a signed number is replied by its bits, a truth as 0 or 1, a kind by its number
 abbrev pub bits16 : Answer ℤ → Answer ℕ

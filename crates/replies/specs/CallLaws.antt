@@ -10,7 +10,7 @@ use mir.ValLaws.{toZ-ofZ, toZ-pos}
 use Rattle.records.specs.Answer.{Answer, value, refused}
 use Rattle.typelib.specs.declared.Parsed.{Parsed}
 use Rattle.typelib.specs.Header.{parseOf, parsed}
-use Rattle.replies.specs.Call.{refusalOf, libraryIn, after, reply, Outcome, laid}
+use Rattle.replies.specs.Call.{refusalOf, libraryIn, after, reply, replyBehind, Outcome, laid}
 
 -- ---- a reply is an i64, which the machine reads back from its bits
 
@@ -48,30 +48,43 @@ after-some (suc n) a h = refl
 
 -- ---- a number that is replied, by what `told` tells of an answer
 
-module _ {E : Type 0} (told : E → Answer ℕ) (number : ℕ) (a : E) where
-  -- refused before
-  pub early : {z : ℤ} → number < 256 → (number ≡ 0 → ⊥) → z ≡ negℤ (pos number)
-      → toZ w64 (ofZ w64 (toZ w64 (ofZ w64 z))) ≡ reply (after number (told a))
-  unfolding reply
-  early h n e = minus-back number h e ∙ ap reply (after-some number (told a) n)
-
+module _ {E : Type 0} (told : E → Answer ℕ) {a e : E} {n : ℕ} where
   -- a value
-  pub valued : {e : E} {n : ℕ} → n < 2 ^ 63 → number ≡ 0 → a ≡ e → value n ≡ told e
-      → toZ w64 (ofZ w64 (toZ w64 n)) ≡ reply (after number (told a))
+  pub valued : n < 2 ^ 63 → a ≡ e → value n ≡ told e → toZ w64 (ofZ w64 (toZ w64 n)) ≡ reply (told a)
   unfolding reply
-  valued {e} {n} h z g k = pos-back n h ∙ ap reply (k ∙ ap told (sym g) ∙ after-none number (told a) z)
+  valued h g k = pos-back n h ∙ ap reply (k ∙ ap told (sym g))
 
   -- a refusal
-  pub declined : {e : E} {n : ℕ} {z : ℤ} → n < 256 → number ≡ 0 → a ≡ e → refused n ≡ told e → z ≡ negℤ (pos n)
-      → toZ w64 (ofZ w64 (toZ w64 (ofZ w64 z))) ≡ reply (after number (told a))
+  pub declined : {z : ℤ} → n < 256 → a ≡ e → refused n ≡ told e → z ≡ negℤ (pos n)
+      → toZ w64 (ofZ w64 (toZ w64 (ofZ w64 z))) ≡ reply (told a)
   unfolding reply
-  declined {e} {n} h z g k m = minus-back n h m ∙ ap reply (k ∙ ap told (sym g) ∙ after-none number (told a) z)
+  declined h g k m = minus-back n h m ∙ ap reply (k ∙ ap told (sym g))
+
+-- ---- behind what was refused before
+
+pub replied-first : (n : ℕ) (y : ℤ) {z : ℤ} → n < 256 → (n ≡ 0 → ⊥) → z ≡ negℤ (pos n) → toZ w64 (ofZ w64 (toZ w64 (ofZ w64 z))) ≡ replyBehind n y
+unfolding replyBehind
+replied-first zero y h k e = absurd (k refl)
+replied-first (suc n) y h k e = minus-back (suc n) h e
+
+pub replied-behind : (n : ℕ) {y z : ℤ} → n ≡ 0 → y ≡ z → y ≡ replyBehind n z
+unfolding replyBehind
+replied-behind zero k e = e
+replied-behind (suc n) k e = absurd (omega arith)
+
+pub behind-reply : (n : ℕ) (a : Answer ℕ) → replyBehind n (reply a) ≡ reply (after n a)
+unfolding replyBehind reply after
+behind-reply zero a = refl
+behind-reply (suc n) a = refl
 
 -- ---- an export: what it calls replies or lays out, by the definitions that are cited
 
-pub replied : {n m : ℕ} {x y : Answer ℕ} {z : ℤ} → z ≡ reply (after n x) → n ≡ m → x ≡ y → z ≡ reply (after m y)
-replied {n} {m} {x} {y} e f g = e ∙ ap (λ (k : ℕ). reply (after k x)) f ∙ ap (λ (a : Answer ℕ). reply (after m a)) g
+pub replied : (n : ℕ) {x y : Answer ℕ} {k z : ℤ} → z ≡ replyBehind n k → k ≡ reply x → x ≡ y → z ≡ reply (after n y)
+replied n {x} e f g = e ∙ ap (replyBehind n) f ∙ behind-reply n x ∙ ap (λ (a : Answer ℕ). reply (after n a)) g
 
-pub laid-as : (o : List ℕ) {n m : ℕ} {x y : Answer (List ℕ)} {w : Outcome} → w ≡ laid (after n x) o → n ≡ m → x ≡ y → w ≡ laid (after m y) o
-laid-as o {n} {m} {x} {y} e f g =
-    e ∙ ap (λ (k : ℕ). laid (after k x) o) f ∙ ap (λ (a : Answer (List ℕ)). laid (after m a) o) g
+module _ (o : List ℕ) {x y : Answer (List ℕ)} {w : Outcome} where
+  pub laid-as : w ≡ laid x o → x ≡ y → w ≡ laid y o
+  laid-as e g = e ∙ ap (λ (a : Answer (List ℕ)). laid a o) g
+
+  pub laid-after : (n : ℕ) → w ≡ laid (after n x) o → x ≡ y → w ≡ laid (after n y) o
+  laid-after n e g = e ∙ ap (λ (a : Answer (List ℕ)). laid (after n a) o) g

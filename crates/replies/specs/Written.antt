@@ -9,12 +9,11 @@ use lib.IntN.{ℤ, pos, negℤ}
 use lib.ListN.{length}
 use mir.Syntax.{w64}
 use mir.Val.{toZ, ofZ}
-use mir.ValLaws.{toZ-ofZ}
 use borrow.Author.Tests.{lt-ltb, le-ltb, leb-true}
 use Rattle.records.specs.Answer.{Answer, value, refused, map}
 use Rattle.texts.specs.Text.{fitted, fronted, Laid}
-use Rattle.replies.specs.Call.{after, reply, Outcome, outcome, laid}
-use Rattle.replies.specs.CallLaws.{minus-fits, minus-back, pos-back, after-none, after-some}
+use Rattle.replies.specs.Call.{reply, outcome, laid}
+use Rattle.replies.specs.CallLaws.{valued, declined}
 
 -- the number, or 0 where it is m or more
 abbrev pub below : ℕ → ℕ → ℕ
@@ -40,36 +39,20 @@ module _ (o : List ℕ) (h : length o < 2 ^ 63) where
       ap (λ (k : ℤ). outcome k o′) (e ∙ ap (λ (b : Answer ℕ). reply (map (below (2 ^ 63)) b)) (l .replies) ∙ ap reply (small x))
       ∙ ap (outcome (reply (map length (fitted x o)))) (l .leaves)
 
--- the same behind `parse`
-pub behind : (n : ℕ) (x : Answer (List ℕ)) (o : List ℕ) {w : Outcome} → n ≡ 0 → w ≡ laid x o → w ≡ laid (after n x) o
-behind n x o h e = e ∙ ap (λ (a : Answer (List ℕ)). laid a o) (after-none n x h)
-
--- `parse` refused
-pub before : (n : ℕ) (x : Answer (List ℕ)) (o : List ℕ) {z : ℤ} → n < 256 → (n ≡ 0 → ⊥) → z ≡ negℤ (pos n)
-    → outcome (toZ w64 (ofZ w64 z)) o ≡ laid (after n x) o
-unfolding laid fitted fronted reply
-before n x o {z} h k e =
-    let q : toZ w64 (ofZ w64 z) ≡ negℤ (pos n) = rw e (toZ-ofZ w64 (negℤ (pos n)) (minus-fits n h)) in
-    ap (λ (z : ℤ). outcome z o) q ∙ ap (λ (a : Answer (List ℕ)). laid a o) (after-some n x k)
-
 -- ---- the reply for what was written
 
-module _ {E : Type 0} (told : E → Answer ℕ) (a : E) where
-  pub counted : {e : E} {n : ℕ} → n < 2 ^ 63 → a ≡ e → value n ≡ told e
-      → toZ w64 (ofZ w64 (toZ w64 n)) ≡ reply (map (below (2 ^ 63)) (told a))
-  unfolding reply
-  counted {e} {n} h g k =
+module _ {E : Type 0} (told : E → Answer ℕ) {a e : E} {n : ℕ} where
+  pub counted : n < 2 ^ 63 → a ≡ e → value n ≡ told e → toZ w64 (ofZ w64 (toZ w64 n)) ≡ reply (map (below (2 ^ 63)) (told a))
+  counted h g k =
       let q : below (2 ^ 63) n ≡ n = rw (lt-ltb n (2 ^ 63) h) in
-      pos-back n h ∙ ap pos (sym q) ∙ ap (λ (x : Answer ℕ). reply (map (below (2 ^ 63)) x)) (k ∙ ap told (sym g))
+      valued (λ b. map (below (2 ^ 63)) (told b)) h g (ap value (sym q) ∙ ap (map (below (2 ^ 63))) k)
 
-  pub uncounted : {e : E} {n : ℕ} → 2 ^ 63 ≤ n → a ≡ e → value n ≡ told e → pos 0 ≡ reply (map (below (2 ^ 63)) (told a))
+  pub uncounted : 2 ^ 63 ≤ n → a ≡ e → value n ≡ told e → pos 0 ≡ reply (map (below (2 ^ 63)) (told a))
   unfolding reply
-  uncounted {e} {n} h g k =
+  uncounted h g k =
       let q : below (2 ^ 63) n ≡ 0 = rw (le-ltb n (2 ^ 63) h) in
       ap pos (sym q) ∙ ap (λ (x : Answer ℕ). reply (map (below (2 ^ 63)) x)) (k ∙ ap told (sym g))
 
-  pub unwritten : {e : E} {n : ℕ} {z : ℤ} → n < 256 → a ≡ e → refused n ≡ told e → z ≡ negℤ (pos n)
+  pub unwritten : {z : ℤ} → n < 256 → a ≡ e → refused n ≡ told e → z ≡ negℤ (pos n)
       → toZ w64 (ofZ w64 (toZ w64 (ofZ w64 z))) ≡ reply (map (below (2 ^ 63)) (told a))
-  unfolding reply
-  unwritten {e} {n} h g k m =
-      minus-back n h m ∙ ap (λ (x : Answer ℕ). reply (map (below (2 ^ 63)) x)) (k ∙ ap told (sym g))
+  unwritten h g k m = declined (λ b. map (below (2 ^ 63)) (told b)) h g (ap (map (below (2 ^ 63))) k) m

@@ -21,9 +21,7 @@ ghost use mir.Val.{toZ, ofZ};
 ghost use Rattle.records.specs.Answer.{map};
 ghost use Rattle.records.specs.Told.{toldBool, toldI16, toldI32, toldKind, toldU16, toldU32, toldU8, toldUsize};
 ghost use Rattle.typelib.specs.Told.{toldOffset};
-ghost use Rattle.replies.specs.Call.{refusalOf, after, reply, bits16, bits32, truth, kindNumber, outcome, laid};
-ghost use Rattle.emit.specs.Emit.{put};
-ghost use Rattle.replies.specs.LayLaws.{startOf};
+ghost use Rattle.replies.specs.Call.{refusalOf, after, replyBehind, reply, bits16, bits32, truth, kindNumber, outcome, laid};
 ghost use Rattle.replies.specs.Written.{below};
 ghost use Rattle.rows.specs.Told.{toldRow};
 
@@ -42,99 +40,74 @@ pub fn refusal(s: &[u8]) -> u8
     p.number
 }
 
-// The replies. Each is the answer behind the refusal `number`, and is stated of the bits of an i64, as
-// a caller that hands it on reads it.
+// The replies. Each is stated of the bits of an i64, as a caller that hands it on reads it.
 
-pub fn of_u32(number: u8, a: U32Answer) -> i64
-    ensures { λ r. ⌜ toZ w64 (ofZ w64 r) ≡ reply (after number (toldU32 a)) ⌝ }
+pub fn of_u32(a: U32Answer) -> i64
+    ensures { λ r. ⌜ toZ w64 (ofZ w64 r) ≡ reply (toldU32 a) ⌝ }
 {
-    if number != 0 {
-        return minus(number);
-    }
     match a {
         U32Answer::Value(x) => x as i64,
         U32Answer::Refused(n) => minus(n),
     }
 }
 
-pub fn of_u16(number: u8, a: U16Answer) -> i64
-    ensures { λ r. ⌜ toZ w64 (ofZ w64 r) ≡ reply (after number (toldU16 a)) ⌝ }
+pub fn of_u16(a: U16Answer) -> i64
+    ensures { λ r. ⌜ toZ w64 (ofZ w64 r) ≡ reply (toldU16 a) ⌝ }
 {
-    if number != 0 {
-        return minus(number);
-    }
     match a {
         U16Answer::Value(x) => x as i64,
         U16Answer::Refused(n) => minus(n),
     }
 }
 
-pub fn of_u8(number: u8, a: U8Answer) -> i64
-    ensures { λ r. ⌜ toZ w64 (ofZ w64 r) ≡ reply (after number (toldU8 a)) ⌝ }
+pub fn of_u8(a: U8Answer) -> i64
+    ensures { λ r. ⌜ toZ w64 (ofZ w64 r) ≡ reply (toldU8 a) ⌝ }
 {
-    if number != 0 {
-        return minus(number);
-    }
     match a {
         U8Answer::Value(x) => x as i64,
         U8Answer::Refused(n) => minus(n),
     }
 }
 
-pub fn of_i32(number: u8, a: I32Answer) -> i64
-    ensures { λ r. ⌜ toZ w64 (ofZ w64 r) ≡ reply (after number (bits32 (toldI32 a))) ⌝ }
+pub fn of_i32(a: I32Answer) -> i64
+    ensures { λ r. ⌜ toZ w64 (ofZ w64 r) ≡ reply (bits32 (toldI32 a)) ⌝ }
 {
-    if number != 0 {
-        return minus(number);
-    }
     match a {
         I32Answer::Value(x) => util::unsigned32(x) as i64,
         I32Answer::Refused(n) => minus(n),
     }
 }
 
-pub fn of_i16(number: u8, a: I16Answer) -> i64
-    ensures { λ r. ⌜ toZ w64 (ofZ w64 r) ≡ reply (after number (bits16 (toldI16 a))) ⌝ }
+pub fn of_i16(a: I16Answer) -> i64
+    ensures { λ r. ⌜ toZ w64 (ofZ w64 r) ≡ reply (bits16 (toldI16 a)) ⌝ }
 {
-    if number != 0 {
-        return minus(number);
-    }
     match a {
         I16Answer::Value(x) => unsigned16(x) as i64,
         I16Answer::Refused(n) => minus(n),
     }
 }
 
-pub fn of_bool(number: u8, a: BoolAnswer) -> i64
-    ensures { λ r. ⌜ toZ w64 (ofZ w64 r) ≡ reply (after number (truth (toldBool a))) ⌝ }
+pub fn of_bool(a: BoolAnswer) -> i64
+    ensures { λ r. ⌜ toZ w64 (ofZ w64 r) ≡ reply (truth (toldBool a)) ⌝ }
 {
-    if number != 0 {
-        return minus(number);
-    }
     match a {
         BoolAnswer::Value(b) => bit(b) as i64,
         BoolAnswer::Refused(n) => minus(n),
     }
 }
 
-pub fn of_kind(number: u8, a: KindAnswer) -> i64
-    ensures { λ r. ⌜ toZ w64 (ofZ w64 r) ≡ reply (after number (map kindNumber (toldKind a))) ⌝ }
+pub fn of_kind(a: KindAnswer) -> i64
+    ensures { λ r. ⌜ toZ w64 (ofZ w64 r) ≡ reply (map kindNumber (toldKind a)) ⌝ }
 {
-    if number != 0 {
-        return minus(number);
-    }
     match a {
         KindAnswer::Value(kind) => kind_number(kind) as i64,
         KindAnswer::Refused(n) => minus(n),
     }
 }
 
-pub fn of_offset(number: u8, a: OffsetAnswer) -> i64
-    ensures { λ r. ⌜ toZ w64 (ofZ w64 r) ≡ reply (after number (bits32 (toldOffset a))) ⌝ }
+pub fn of_offset(a: OffsetAnswer) -> i64
+    ensures { λ r. ⌜ toZ w64 (ofZ w64 r) ≡ reply (bits32 (toldOffset a)) ⌝ }
 {
-    if number != 0 {
-        return minus(number);
-    }
     match a {
         OffsetAnswer::Value(x) => util::unsigned32(x.0) as i64,
         OffsetAnswer::Refused(n) => minus(n),
@@ -190,24 +163,12 @@ pub fn of_written(a: UsizeAnswer) -> i64
     }
 }
 
-// Where a row starts.
-fn start(number: u8) -> usize
-    ensures { λ r. ⌜ put r ≡ startOf number ⌝ }
-{
-    if number == 0 {
-        0
-    } else {
-        emit::put_refusal(0, number)
-    }
-}
-
-// Lays the row into the output, behind the refusal `number`. A first run over no output tells the
-// length or the refusal.
-pub fn lay(number: u8, row: Row, out: &mut [u8]) -> i64
-    ensures { λ r. ⌜ outcome (toZ w64 (ofZ w64 r)) (now (out .exit)) ≡ laid (after number (toldRow row)) (now (out .entry)) ⌝ }
+// Lays the row into the output. A first run over no output tells the length or the refusal.
+pub fn lay(row: Row, out: &mut [u8]) -> i64
+    ensures { λ r. ⌜ outcome (toZ w64 (ofZ w64 r)) (now (out .exit)) ≡ laid (toldRow row) (now (out .entry)) ⌝ }
 {
     let mut none: [u8; 0] = [];
-    let size = row_bytes::put_row(&mut none, start(number), row);
+    let size = row_bytes::put_row(&mut none, 0, row);
     if emit::PAST < size {
         return minus(((size - emit::PAST - 1) % 256) as u8);
     }
@@ -216,4 +177,24 @@ pub fn lay(number: u8, row: Row, out: &mut [u8]) -> i64
     }
     row_bytes::put_row(&mut out[..size], 0, row);
     size as i64
+}
+
+// Behind `parse`: where it refused, with `number`, its refusal comes first and nothing is written.
+
+pub fn behind(number: u8, told: i64) -> i64
+    ensures { λ r. ⌜ toZ w64 (ofZ w64 r) ≡ replyBehind number told ⌝ }
+{
+    if number != 0 {
+        return minus(number);
+    }
+    told
+}
+
+pub fn lay_behind(number: u8, row: Row, out: &mut [u8]) -> i64
+    ensures { λ r. ⌜ outcome (toZ w64 (ofZ w64 r)) (now (out .exit)) ≡ laid (after number (toldRow row)) (now (out .entry)) ⌝ }
+{
+    if number != 0 {
+        return minus(number);
+    }
+    lay(row, out)
 }

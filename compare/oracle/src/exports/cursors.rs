@@ -46,17 +46,17 @@ fn of_library() -> Vec<Export> {
 
 fn of_records() -> Vec<Export> {
     vec![
-        export!(TwoOut msft_funcs, Asks::Record(Kind::TypeInfo), Library, |lib, numbers| {
+        export!(TwoOut msft_funcs, Asks::Record(Kind::TypeInfo), Lent, |lib, numbers| {
             let typeinfo = record(lib, Kind::TypeInfo, numbers).map(TypeInfoEntry::new);
             let funcs = typeinfo.map(|typeinfo| lib.funcs(&typeinfo).numbers());
             funcs.map(|numbers| Row::new().sizes(numbers)).tell(lib.data())
         }),
-        export!(TwoOut msft_vars, Asks::Record(Kind::TypeInfo), Library, |lib, numbers| {
+        export!(TwoOut msft_vars, Asks::Record(Kind::TypeInfo), Lent, |lib, numbers| {
             let typeinfo = record(lib, Kind::TypeInfo, numbers).map(TypeInfoEntry::new);
             let vars = typeinfo.map(|typeinfo| lib.vars(&typeinfo).numbers());
             vars.map(|numbers| Row::new().sizes(numbers)).tell(lib.data())
         }),
-        export!(TwoOut msft_params, Asks::Record(Kind::Func), Library, |lib, numbers| {
+        export!(TwoOut msft_params, Asks::Record(Kind::Func), Lent, |lib, numbers| {
             let func = record(lib, Kind::Func, numbers).map(FuncRecord::new);
             func.map_or(Answer::Refused(NOTHING), |func| params(lib, &lib.params(&func)))
         }),
@@ -101,19 +101,19 @@ fn step<const N: usize>(lib: &TypeLib, record: Option<&[u8]>, numbers: [usize; N
 
 fn block_steps() -> Vec<Export> {
     vec![
-        export!(ThreeOut msft_func_step, Asks::Cursor(Cursor::Funcs), Library, |lib, [pos, end, left]| {
+        export!(ThreeOut msft_func_step, Asks::Cursor(Cursor::Funcs), Lent, |lib, [pos, end, left]| {
             let mut funcs = FuncIter::new(lib.data(), pos, end, left);
             let func = funcs.next().map(|func| func.as_bytes());
             step(lib, func, funcs.numbers())
         }),
-        export!(ThreeOut msft_var_step, Asks::Cursor(Cursor::Vars), Library, |lib, [pos, end, left]| {
+        export!(ThreeOut msft_var_step, Asks::Cursor(Cursor::Vars), Lent, |lib, [pos, end, left]| {
             let mut vars = VarIter::new(lib.data(), pos, end, left);
             let var = vars.next().map(|var| var.as_bytes());
             step(lib, var, vars.numbers())
         }),
         // The reference's iterator holds the record, which here ends at `end`. An end past the lent
         // bytes, which it cannot hold, is cut to theirs: no call looks outside them.
-        export!(ThreeOut msft_param_step, Asks::Cursor(Cursor::Params), Library, |lib, [pos, end, left]| {
+        export!(ThreeOut msft_param_step, Asks::Cursor(Cursor::Params), Lent, |lib, [pos, end, left]| {
             let lent = &lib.data()[..end.min(lib.data().len())];
             let mut params = ParamIter::new(lent, pos, left);
             let param = params.next().map(|param| param.held());
@@ -125,19 +125,19 @@ fn block_steps() -> Vec<Export> {
 
 fn table_steps() -> Vec<Export> {
     vec![
-        export!(TwoOut msft_guid_step, Asks::Cursor(Cursor::Guids), Library, |lib, [pos, end, _]| {
+        export!(TwoOut msft_guid_step, Asks::Cursor(Cursor::Guids), Lent, |lib, [pos, end, _]| {
             let mut guids = GuidEntryIter::new(lib.data(), pos, end);
             // The entry begins with its GUID, and the cursor then stands at the entry's end.
             let at = guids.next().map(|entry| place_in(lib.data(), entry.guid().as_bytes()));
             let entry = at.map(|at| &lib.data()[at..guids.numbers()[0]]);
             step(lib, entry, guids.numbers())
         }),
-        export!(TwoOut msft_import_step, Asks::Cursor(Cursor::Imports), Library, |lib, [pos, end, _]| {
+        export!(TwoOut msft_import_step, Asks::Cursor(Cursor::Imports), Lent, |lib, [pos, end, _]| {
             let mut imports = ImpInfoIter::new(lib.data(), pos, end);
             let import = imports.next().map(|import| import.held());
             step(lib, import, imports.numbers())
         }),
-        export!(TwoOut msft_imp_file_step, Asks::Cursor(Cursor::ImportFiles), Library, |lib, [pos, end, _]| {
+        export!(TwoOut msft_imp_file_step, Asks::Cursor(Cursor::ImportFiles), Lent, |lib, [pos, end, _]| {
             let mut files = ImpFileIter::new(lib.data(), pos, end);
             let file = files.next().map(|file| file.held());
             step(lib, file, files.numbers())
@@ -147,7 +147,7 @@ fn table_steps() -> Vec<Export> {
 
 fn other_steps() -> Vec<Export> {
     vec![
-        export!(ThreeOut msft_name_step, Asks::Cursor(Cursor::Names), Library, |lib, [pos, end, start]| {
+        export!(ThreeOut msft_name_step, Asks::Cursor(Cursor::Names), Lent, |lib, [pos, end, start]| {
             let mut names = NameIter::new(lib.data(), pos, end, start);
             let entry = names.next().map(|entry| name_row(lib, &entry));
             entry.map(|row| row.sizes(names.numbers())).tell(lib.data())
@@ -158,13 +158,13 @@ fn other_steps() -> Vec<Export> {
             typeinfos.by_ref().take(index).for_each(drop);
             typeinfos.size_hint().0.tell(lib.data())
         }),
-        export!(ChainOut msft_impl_type_step, Asks::Cursor(Cursor::Chain), Library, |lib, [at, len, next]| {
+        export!(ChainOut msft_impl_type_step, Asks::Cursor(Cursor::Chain), Lent, |lib, [at, len, next]| {
             let mut chain = ImplTypeIter::new(lib.data(), at, next as i32);
             let reference = chain.next().map(|reference| reference.held());
             let row = reference.map(|bytes| Row::new().place(lib.data(), bytes));
             row.map(|row| chain_row(row, &chain, len)).tell(lib.data())
         }),
-        export!(ChainOut msft_walk, Asks::Cursor(Cursor::Chain), Library, walk),
+        export!(ChainOut msft_walk, Asks::Cursor(Cursor::Chain), Lent, walk),
     ]
 }
 

@@ -50,10 +50,11 @@ fn indexed() -> Vec<Export> {
     ]
 }
 
-/// Exports that ask for a member of a typeinfo by its index.
+/// Exports that ask for a member of a typeinfo by its index: its identifier and the offset of its name
+/// stand behind the typeinfo's records, its name in a table of the library.
 macro_rules! of_members {
-    ($($form:ident $name:ident $method:ident),* $(,)?) => {
-        vec![$(export!($form $name, Asks::Record(Kind::TypeInfo), Library, |lib, numbers| {
+    ($rust:ident: $($form:ident $name:ident $method:ident),* $(,)?) => {
+        vec![$(export!($form $name, Asks::Record(Kind::TypeInfo), $rust, |lib, numbers| {
             let Some(bytes) = record(lib, Kind::TypeInfo, numbers) else {
                 return Answer::Refused(NOTHING);
             };
@@ -63,14 +64,17 @@ macro_rules! of_members {
 }
 
 fn members() -> Vec<Export> {
-    of_members!(
+    let mut exports = of_members!(Lent:
         Three msft_func_memid func_memid,
         Three msft_var_memid var_memid,
         Three msft_func_name_offset func_name_offset,
         Three msft_var_name_offset var_name_offset,
+    );
+    exports.extend(of_members!(Library:
         ThreeOut msft_func_name func_name,
         ThreeOut msft_var_name var_name,
-    )
+    ));
+    exports
 }
 
 /// Exports that ask for what a word names, told as it is or made a row first.

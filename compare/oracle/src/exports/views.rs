@@ -34,7 +34,7 @@ pub(super) fn record<'a>(lib: &TypeLib<'a>, kind: Kind, numbers: Numbers) -> Opt
 /// Exports that ask a record of a kind for a method, with an index where their form has three numbers.
 macro_rules! views {
     ($kind:ident $view:ident: $($form:ident $name:ident $method:ident),* $(,)?) => {
-        vec![$(export!($form $name, Asks::Record(Kind::$kind), Library, |lib, numbers| {
+        vec![$(export!($form $name, Asks::Record(Kind::$kind), Lent, |lib, numbers| {
             let Some(bytes) = record(lib, Kind::$kind, numbers) else {
                 return Answer::Refused(NOTHING);
             };
@@ -117,7 +117,7 @@ fn counted_records() -> Vec<Export> {
     ));
     // The entry's numbers come with it by value; the export takes the place of its text alone.
     exports.push(
-        export!(TwoOut msft_nameentry_name, Asks::Record(Kind::Name), Library, |lib, numbers| {
+        export!(TwoOut msft_nameentry_name, Asks::Record(Kind::Name), Lent, |lib, numbers| {
             let text = lent_at(lib, numbers).and_then(|bytes| std::str::from_utf8(bytes).ok());
             text.map(|text| NameEntry::new(0, text, 0, 0, 0, 0).name()).tell(lib.data())
         }),
@@ -171,7 +171,7 @@ fn vars() -> Vec<Export> {
         Two msft_var_helpstringcontext helpstringcontext,
     );
     exports.push(
-        export!(TwoOut msft_var_from_raw, Asks::Record(Kind::Var), Library, |lib, numbers| {
+        export!(TwoOut msft_var_from_raw, Asks::Record(Kind::Var), Lent, |lib, numbers| {
             let bytes = lent_at(lib, numbers);
             bytes.and_then(|bytes| VarRecord::from_raw(bytes).ok()).tell(lib.data())
         }),

@@ -1,8 +1,8 @@
 //! The product's readings beside the reference's: the full walk, the search for members' names,
 //! cursors that are stepped by calls, names, constants, texts, and what a call itself costs.
 //!
-//! Every call of the product parses the library first. Where nothing else is said the reference
-//! parses once, as a program in Rust would.
+//! A call of the product that needs the library parses it first. Where nothing else is said the
+//! reference parses once, as a program in Rust would.
 
 #[cfg(product)]
 mod calls;

@@ -52,6 +52,7 @@ pub fn compare(options: &Options) -> ExitCode {
     }
     made_records(&mut run, &mut inputs.random(FOR_RECORDS));
     stored_constants(&mut run);
+    without_magic(&mut run, &inputs);
     beginnings(&mut run, &inputs);
     for whole in small() {
         for input in whole.bit_changes() {
@@ -93,25 +94,42 @@ fn drawn(run: &mut Run, input: &Input, count: usize) {
     run.ask(input, |asks, random| pool.drawn(count, asks, random));
 }
 
-/// Made-up records, each at the very end of a library without tables, asked for what its kind has:
-/// whole, and at places around it.
+/// Made-up records, each at the very end of a library without tables and each alone, asked for what its
+/// kind has: whole, and at places around it.
 fn made_records(run: &mut Run, random: &mut Random) {
     let head = Layout::new(Vec::new()).bytes();
     for kind in Kind::ALL.into_iter().filter(|kind| kind.is_record()) {
         for record in records::records(kind, random) {
-            let whole = [head.len(), record.bytes.len(), record.arg as usize];
-            let bytes = [&head[..], &record.bytes].concat();
-            let pool = Pool::new(&bytes);
-            let input = Input::new(format!("a made-up {}", kind.name()), bytes);
-            run.ask(&input, |asks, random| {
-                if asks != Asks::Record(kind) {
-                    return Vec::new();
-                }
-                let mut all = pool.drawn(AROUND_RECORD, asks, random);
-                all.push(whole);
-                all
-            });
+            made_record(run, kind, &head, &record);
+            made_record(run, kind, &[], &record);
         }
+    }
+}
+
+fn made_record(run: &mut Run, kind: Kind, head: &[u8], record: &records::Record) {
+    let whole = [head.len(), record.bytes.len(), record.arg as usize];
+    let bytes = [head, &record.bytes].concat();
+    let pool = Pool::new(&bytes);
+    let input = Input::new(format!("a made-up {}", kind.name()), bytes);
+    run.ask(&input, |asks, random| {
+        if asks != Asks::Record(kind) {
+            return Vec::new();
+        }
+        let mut all = pool.drawn(AROUND_RECORD, asks, random);
+        all.push(whole);
+        all
+    });
+}
+
+/// A few libraries without their magic, which are none, asked with every set of numbers that the whole
+/// one names: their records and cursors can still be read.
+fn without_magic(run: &mut Run, inputs: &Inputs) {
+    for whole in inputs.cut_everywhere() {
+        let pool = Pool::new(&whole.bytes);
+        let mut bytes = whole.bytes;
+        bytes[0] = 0;
+        let input = Input::new(format!("{} without its magic", whole.name), bytes);
+        run.ask(&input, |asks, random| pool.every(asks, random));
     }
 }
 

@@ -132,7 +132,7 @@ impl Run {
             return;
         }
         let expected = export.expected(input, numbers);
-        tally.add(numbers, &expected);
+        tally.add(input.lib.is_ok(), numbers, &expected);
         if let Some(wrong) = difference(&mut self.lent, export, numbers, &expected) {
             *differs = true;
             println!(
@@ -160,6 +160,11 @@ impl Run {
             self.driven.len(),
             self.inputs,
             self.cases()
+        );
+        let alone = self.driven.iter().map(|driven| driven.tally.alone());
+        let (values, nothing) = alone.fold((0, 0), |all, one| (all.0 + one.0, all.1 + one.1));
+        println!(
+            "about bytes that are no library: {values} values and {nothing} refusals 9 of calls that do not parse"
         );
         let tallies = self.driven.iter().map(|driven| &driven.tally);
         let faults: Vec<String> = tallies.flat_map(Tally::faults).collect();

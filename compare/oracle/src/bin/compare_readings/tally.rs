@@ -8,13 +8,9 @@ use msft_typelib::c_header::{Declared, Lengths};
 use msft_typelib::coverage::{INLINE_CODES, stored_codes};
 use msft_typelib::exports::Export;
 use msft_typelib::exports::answer::Answer;
-use msft_typelib::exports::call::Call;
 use msft_typelib::exports::numbers::Numbers;
 use msft_typelib::readings::NOTHING;
 use msft_typelib::sheet::refusal;
-
-/// The refusals of an input that is no library, which every export that takes one has.
-const NO_LIBRARY: [u8; 5] = [1, 2, 3, 4, 5];
 
 /// The highest number of a refusal.
 const LAST: usize = 13;
@@ -27,6 +23,13 @@ const TOO_SHORT: u64 = 2;
 /// The export whose rows begin with a constant's code.
 const CONSTANTS: &str = "msft_const_value";
 
+/// Values and refusals 9 about bytes that are no library.
+#[derive(Default)]
+struct Alone {
+    values: u64,
+    nothing: u64,
+}
+
 /// The counts of one export.
 pub struct Tally {
     name: &'static str,
@@ -37,6 +40,8 @@ pub struct Tally {
     cases: u64,
     values: u64,
     refused: [u64; LAST + 1],
+    /// Of an export that needs no library: what it came to about bytes that are none.
+    alone: Option<Alone>,
     lengths: BTreeSet<usize>,
     /// Codes of constants, by whether they are stored.
     codes: BTreeSet<(bool, u16)>,
@@ -50,18 +55,26 @@ impl Tally {
         Tally {
             name: export.name,
             has_output: export.call.has_output(),
-            wanted: wanted(export, refusals.unwrap_or_default()),
+            wanted: refusals.unwrap_or_default(),
             wanted_lengths: declared.map_or(Lengths::Any, |declared| declared.lengths.clone()),
             cases: 0,
             values: 0,
             refused: [0; LAST + 1],
+            alone: export.needs_no_library().then(Alone::default),
             lengths: BTreeSet::new(),
             codes: BTreeSet::new(),
         }
     }
 
-    pub fn add(&mut self, numbers: Numbers, answer: &Answer) {
+    /// Counts an answer about bytes that are a library or none.
+    pub fn add(&mut self, is_library: bool, numbers: Numbers, answer: &Answer) {
         self.cases += 1;
+        if let Some(alone) = self.alone.as_mut().filter(|_| !is_library) {
+            match answer {
+                Answer::Refused(number) => alone.nothing += u64::from(*number == NOTHING),
+                _ => alone.values += 1,
+            }
+        }
         match answer {
             Answer::Refused(number) => self.refused[usize::from(*number)] += 1,
             Answer::Number(_) => self.values += 1,
@@ -107,6 +120,7 @@ impl Tally {
             let (found, wanted) = (&self.lengths, &self.wanted_lengths);
             faults.push(format!("rows of {found:?} bytes instead of {wanted:?}"));
         }
+        faults.extend(self.missing_alone());
         faults.extend(self.missing_codes());
         let named = |fault| format!("{}: {fault}", self.name);
         faults.into_iter().map(named).collect()
@@ -123,6 +137,25 @@ impl Tally {
         }
     }
 
+    fn missing_alone(&self) -> Vec<String> {
+        let mut missing = Vec::new();
+        if let Some(alone) = &self.alone {
+            if alone.values == 0 {
+                missing.push("no value about bytes that are no library".into());
+            }
+            if self.wanted.contains(&NOTHING) && alone.nothing == 0 {
+                missing.push("no refusal 9 about bytes that are no library".into());
+            }
+        }
+        missing
+    }
+
+    /// Values and refusals 9 about bytes that are no library.
+    pub fn alone(&self) -> (u64, u64) {
+        let alone = self.alone.as_ref();
+        alone.map_or((0, 0), |alone| (alone.values, alone.nothing))
+    }
+
     fn missing_codes(&self) -> Vec<String> {
         if self.name != CONSTANTS {
             return Vec::new();
@@ -134,19 +167,6 @@ impl Tally {
             .map(|(is_stored, code)| format!("no constant of code {code}, stored: {is_stored}"))
             .collect()
     }
-}
-
-/// The refusals that an export should come to in a run: those that the header names, without those
-/// that no call can bring about.
-fn wanted(export: &Export, mut named: BTreeSet<u8>) -> BTreeSet<u8> {
-    if export.call.takes_library() {
-        named.extend(NO_LIBRARY);
-    }
-    // A call parses first, and what can be parsed has a whole header: a field of it is never missing.
-    if matches!(export.call, Call::Lib(_)) {
-        named.remove(&NOTHING);
-    }
-    named
 }
 
 /// The titles of the columns of [`Tally`]'s lines.

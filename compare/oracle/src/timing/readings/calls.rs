@@ -4,8 +4,9 @@ use std::hint::black_box;
 
 use crate::inputs::{Inputs, texts};
 use crate::product::{self, Out};
+use crate::readings::place_in;
 use crate::timing::Case;
-use crate::{ConstValue, TypeLib};
+use crate::{ConstValue, TypeInfoEntry, TypeLib};
 
 /// How often a cheap reading is called in a round.
 const MANY: usize = 100_000;
@@ -56,6 +57,7 @@ pub fn print() {
     );
     print_texts();
     print_cheap(&asked[0].0);
+    print_field(&asked[0].0);
 }
 
 /// UTF-8 of one text, short as a name and long as a string can be, by the length of its characters.
@@ -98,6 +100,27 @@ fn print_cheap(library: &[u8]) {
         rust_version,
         |library| product::version(library).unsigned_abs(),
     );
+}
+
+/// What a call costs that reads one field of a record and does not parse.
+fn print_field(library: &[u8]) {
+    let lib = TypeLib::parse(library).expect("it is a library");
+    let record = lib.typeinfo(0).expect("it has a type").as_bytes();
+    let at = place_in(library, record);
+    let case = Case {
+        name: "flags of a type by its place",
+        bytes: library.len(),
+        calls: Some(MANY),
+        rust: Box::new(move || {
+            let flags = || TypeInfoEntry::new(black_box(record)).flags();
+            (0..MANY).map(|_| u64::from(flags())).sum()
+        }),
+        product: Some(Box::new(move || {
+            let flags = || product::typeinfo_flags(black_box(library), at, record.len());
+            (0..MANY).map(|_| flags().unsigned_abs()).sum()
+        })),
+    };
+    case.print();
 }
 
 /// Asks every library with all of its words; the reference parses each library once.

@@ -10,5 +10,5 @@ pub msft-arraydesc-bound-spec : {M : Type 1} → statement M
 msft-arraydesc-bound-spec =
     tie.close
     (tie.spec
-    (λ c κs. search needs) (λ c κs. search needs) (λ c κs. search needs) (λ c κs. search needs) (λ c. search needs)
-    (λ c. laid-as _ (c .before .before .lay .ensures) (c .before .before .before .before .before .before .refusal .ensures) (c .before .before .before .before .of-bound .ensures ∙ ap (map bound) (c .before .before .before .before .before .bound .ensures))))
+    (λ c κs. search needs) (λ c κs. search needs) (λ c κs. search needs) (λ c. search needs)
+    (λ c. laid-as _ (c .before .before .lay .ensures) (c .before .before .before .before .of-bound .ensures ∙ ap (map bound) (c .before .before .before .before .before .bound .ensures))))

@@ -1,4 +1,5 @@
-use Rattle.replies.specs.CallLaws.{replied}
+use mathlib.Core.Path.{_∙_, ap}
+use Rattle.replies.specs.Call.{reply}
 use borrow.Author.Needs.{needs}
 use Rattle.msft_typelib.proofs.arraydesc.msft_arraydesc_flags.Statement.{statement}
 use Rattle.msft_typelib.proofs.arraydesc.msft_arraydesc_flags.Tie as tie
@@ -7,5 +8,5 @@ pub msft-arraydesc-flags-spec : {M : Type 1} → statement M
 msft-arraydesc-flags-spec =
     tie.close
     (tie.spec
-    (λ c κs. search needs) (λ c κs. search needs) (λ c κs. search needs)
-    (λ c. replied (c .of-u16 .ensures) (c .before .before .refusal .ensures) (c .before .flags .ensures)))
+    (λ c κs. search needs) (λ c κs. search needs)
+    (λ c. c .of-u16 .ensures ∙ ap reply (c .before .flags .ensures)))

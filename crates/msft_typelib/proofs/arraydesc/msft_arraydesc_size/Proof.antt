@@ -10,5 +10,5 @@ pub msft-arraydesc-size-spec : {M : Type 1} → statement M
 msft-arraydesc-size-spec =
     tie.close
     (tie.spec
-    (λ c κs. search needs) (λ c κs. search needs) (λ c κs. search needs) (λ c κs. search needs) (λ c. search needs)
-    (λ c. laid-as _ (c .before .before .lay .ensures) (c .before .before .before .before .before .before .refusal .ensures) (c .before .before .before .before .of-size .ensures ∙ ap (map size) (c .before .before .before .before .before .size .ensures))))
+    (λ c κs. search needs) (λ c κs. search needs) (λ c κs. search needs) (λ c. search needs)
+    (λ c. laid-as _ (c .before .before .lay .ensures) (c .before .before .before .before .of-size .ensures ∙ ap (map size) (c .before .before .before .before .before .size .ensures))))

@@ -10,5 +10,5 @@ pub msft-guid-data4-spec : {M : Type 1} → statement M
 msft-guid-data4-spec =
     tie.close
     (tie.spec
-    (λ c κs. search needs) (λ c κs. search needs) (λ c κs. search needs) (λ c κs. search needs) (λ c. search needs)
-    (λ c. laid-as _ (c .before .before .lay .ensures) (c .before .before .before .before .before .before .refusal .ensures) (c .before .before .before .before .of-place .ensures ∙ ap (map place) (c .before .before .before .before .before .data4 .ensures))))
+    (λ c κs. search needs) (λ c κs. search needs) (λ c κs. search needs) (λ c. search needs)
+    (λ c. laid-as _ (c .before .before .lay .ensures) (c .before .before .before .before .of-place .ensures ∙ ap (map place) (c .before .before .before .before .before .data4 .ensures))))

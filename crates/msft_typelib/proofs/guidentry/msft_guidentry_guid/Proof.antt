@@ -10,5 +10,5 @@ pub msft-guidentry-guid-spec : {M : Type 1} → statement M
 msft-guidentry-guid-spec =
     tie.close
     (tie.spec
-    (λ c κs. search needs) (λ c κs. search needs) (λ c κs. search needs) (λ c κs. search needs) (λ c. search needs)
-    (λ c. laid-as _ (c .before .before .lay .ensures) (c .before .before .before .before .before .before .refusal .ensures) (c .before .before .before .before .of-guid .ensures ∙ ap (map place) (c .before .before .before .before .before .guid .ensures))))
+    (λ c κs. search needs) (λ c κs. search needs) (λ c κs. search needs) (λ c. search needs)
+    (λ c. laid-as _ (c .before .before .lay .ensures) (c .before .before .before .before .of-guid .ensures ∙ ap (map place) (c .before .before .before .before .before .guid .ensures))))

@@ -1,6 +1,5 @@
-use Rattle.replies.specs.Call.{bits32}
-use Rattle.replies.specs.CallLaws.{replied}
-use mathlib.Core.Path.{ap}
+use Rattle.replies.specs.Call.{bits32, reply}
+use mathlib.Core.Path.{_∙_, ap}
 use borrow.Author.Needs.{needs}
 use Rattle.msft_typelib.proofs.guidentry.msft_guidentry_next_hash.Statement.{statement}
 use Rattle.msft_typelib.proofs.guidentry.msft_guidentry_next_hash.Tie as tie
@@ -9,5 +8,5 @@ pub msft-guidentry-next-hash-spec : {M : Type 1} → statement M
 msft-guidentry-next-hash-spec =
     tie.close
     (tie.spec
-    (λ c κs. search needs) (λ c κs. search needs) (λ c κs. search needs)
-    (λ c. replied (c .of-i32 .ensures) (c .before .before .refusal .ensures) (ap bits32 (c .before .next-hash .ensures))))
+    (λ c κs. search needs) (λ c κs. search needs)
+    (λ c. c .of-i32 .ensures ∙ ap reply (ap bits32 (c .before .next-hash .ensures))))

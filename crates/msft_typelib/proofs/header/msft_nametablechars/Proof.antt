@@ -1,6 +1,6 @@
 use Rattle.replies.specs.Call.{bits32}
 use Rattle.replies.specs.CallLaws.{number-is, replied}
-use mathlib.Core.Path.{ap, refl}
+use mathlib.Core.Path.{ap}
 use borrow.Author.Needs.{needs}
 use Rattle.msft_typelib.proofs.header.msft_nametablechars.Statement.{statement}
 use Rattle.msft_typelib.proofs.header.msft_nametablechars.Tie as tie
@@ -9,5 +9,5 @@ pub msft-nametablechars-spec : {M : Type 1} → statement M
 msft-nametablechars-spec =
     tie.close
     (tie.spec
-    (λ c κs. search needs) (λ c κs. search needs) (λ c κs. search needs)
-    (λ c. rw (number-is (c .before .before .before .before .before .args .s .now) (c .before .before .before .parse .result) (c .before .before .before .parse .ensures)) (replied (c .of-i32 .ensures) refl (ap bits32 (c .before .nametablechars .ensures)))))
+    (λ c κs. search needs) (λ c κs. search needs) (λ c κs. search needs) (λ c κs. search needs)
+    (λ c. rw (number-is (c .before .before .before .before .before .before .args .s .now) (c .before .before .before .before .parse .result) (c .before .before .before .before .parse .ensures)) (replied _ (c .behind .ensures) (c .before .of-i32 .ensures) (ap bits32 (c .before .before .nametablechars .ensures)))))

@@ -1,3 +1,7 @@
+use mathlib.Core.Path.{refl}
+use Rattle.replies.specs.Call.{reply}
+use Rattle.replies.specs.CallLaws.{replied}
+use Rattle.records.specs.Answer.{value}
 use borrow.Author.Needs.{needs}
 use Rattle.msft_typelib.proofs.header.msft_parse.Statement.{statement}
 use Rattle.msft_typelib.proofs.header.msft_parse.Tie as tie
@@ -5,11 +9,12 @@ use Rattle.msft_typelib.proofs.header.msft_parse.Tie as tie
 refusal-requires : tie.Need-refusal-requires
 refusal-requires c κs = search needs
 
-of-u32-requires : tie.Need-of-u32-requires
-of-u32-requires c κs = search needs
+behind-requires : tie.Need-behind-requires
+behind-requires c κs = search needs
 
 returns : tie.Need-returns
-returns c = cc
+unfolding reply
+returns c = rw (← c .before .refusal .ensures) (replied _ {x = value 0} (c .behind .ensures) refl refl)
 
 pub msft-parse-spec : {M : Type 1} → statement M
-msft-parse-spec = tie.close (tie.spec refusal-requires of-u32-requires returns)
+msft-parse-spec = tie.close (tie.spec refusal-requires behind-requires returns)

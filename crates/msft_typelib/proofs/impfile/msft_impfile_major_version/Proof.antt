@@ -1,4 +1,5 @@
-use Rattle.replies.specs.CallLaws.{replied}
+use mathlib.Core.Path.{_∙_, ap}
+use Rattle.replies.specs.Call.{reply}
 use borrow.Author.Needs.{needs}
 use Rattle.msft_typelib.proofs.impfile.msft_impfile_major_version.Statement.{statement}
 use Rattle.msft_typelib.proofs.impfile.msft_impfile_major_version.Tie as tie
@@ -7,5 +8,5 @@ pub msft-impfile-major-version-spec : {M : Type 1} → statement M
 msft-impfile-major-version-spec =
     tie.close
     (tie.spec
-    (λ c κs. search needs) (λ c κs. search needs) (λ c κs. search needs)
-    (λ c. replied (c .of-u16 .ensures) (c .before .before .refusal .ensures) (c .before .major-version .ensures)))
+    (λ c κs. search needs) (λ c κs. search needs)
+    (λ c. c .of-u16 .ensures ∙ ap reply (c .before .major-version .ensures)))

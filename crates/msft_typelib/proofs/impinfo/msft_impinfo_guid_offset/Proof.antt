@@ -1,6 +1,5 @@
-use Rattle.replies.specs.Call.{bits32}
-use Rattle.replies.specs.CallLaws.{replied}
-use mathlib.Core.Path.{ap}
+use Rattle.replies.specs.Call.{bits32, reply}
+use mathlib.Core.Path.{_∙_, ap}
 use borrow.Author.Needs.{needs}
 use Rattle.msft_typelib.proofs.impinfo.msft_impinfo_guid_offset.Statement.{statement}
 use Rattle.msft_typelib.proofs.impinfo.msft_impinfo_guid_offset.Tie as tie
@@ -9,5 +8,5 @@ pub msft-impinfo-guid-offset-spec : {M : Type 1} → statement M
 msft-impinfo-guid-offset-spec =
     tie.close
     (tie.spec
-    (λ c κs. search needs) (λ c κs. search needs) (λ c κs. search needs)
-    (λ c. replied (c .of-i32 .ensures) (c .before .before .refusal .ensures) (ap bits32 (c .before .guid-offset .ensures))))
+    (λ c κs. search needs) (λ c κs. search needs)
+    (λ c. c .of-i32 .ensures ∙ ap reply (ap bits32 (c .before .guid-offset .ensures))))

@@ -9,5 +9,5 @@ pub msft-func-step-spec : {M : Type 1} → statement M
 msft-func-step-spec =
     tie.close
     (tie.spec
-    (λ c κs. search needs) (λ c κs. search needs) (λ c κs. search needs) (λ c κs. search needs) (λ c. search needs)
-    (λ c. laid-as _ (c .before .before .lay .ensures) (c .before .before .before .before .before .before .refusal .ensures) (c .before .before .before .before .of-func-step .ensures ∙ ap (step funcNumbers) (c .before .before .before .before .before .step .ensures))))
+    (λ c κs. search needs) (λ c κs. search needs) (λ c κs. search needs) (λ c. search needs)
+    (λ c. laid-as _ (c .before .before .lay .ensures) (c .before .before .before .before .of-func-step .ensures ∙ ap (step funcNumbers) (c .before .before .before .before .before .step .ensures))))

@@ -1,8 +1,7 @@
 use mathlib.Core.Path.{ap, _∙_}
 use Rattle.records.specs.Answer.{value}
-use Rattle.replies.specs.Call.{after, laid}
 use Rattle.rows.specs.Values.{cursor, impFileNumbers}
-use Rattle.replies.specs.CallLaws.{library-is, number-is}
+use Rattle.replies.specs.CallLaws.{laid-after, library-is, number-is}
 use borrow.Author.Needs.{needs}
 use Rattle.msft_typelib.proofs.iterators.msft_imp_files.Statement.{statement}
 use Rattle.msft_typelib.proofs.iterators.msft_imp_files.Tie as tie
@@ -12,4 +11,4 @@ msft-imp-files-spec =
     tie.close
     (tie.spec
     (λ c κs. search needs) (λ c κs. search needs) (λ c κs. search needs) (λ c κs. search needs) (λ c. search needs)
-    (λ c. rw (library-is (c .before .before .before .before .before .before .before .before .before .before .args .s .now) (c .before .before .before .before .before .before .before .parse .result) (c .before .before .before .before .before .before .before .parse .ensures), number-is (c .before .before .before .before .before .before .before .before .before .before .args .s .now) (c .before .before .before .before .before .before .before .parse .result) (c .before .before .before .before .before .before .before .parse .ensures)) (c .before .before .lay .ensures ∙ ap (λ x. laid (after (c .before .before .before .before .before .before .before .parse .result .number) x) (c .before .before .before .before .before .before .before .before .before .before .args .out .now)) (c .before .before .before .before .of-imp-files .ensures ∙ ap (λ g. value (cursor impFileNumbers g)) (c .before .before .before .before .before .imp-files .ensures)))))
+    (λ c. rw (library-is (c .before .before .before .before .before .before .before .before .before .before .args .s .now) (c .before .before .before .before .before .before .before .parse .result) (c .before .before .before .before .before .before .before .parse .ensures), number-is (c .before .before .before .before .before .before .before .before .before .before .args .s .now) (c .before .before .before .before .before .before .before .parse .result) (c .before .before .before .before .before .before .before .parse .ensures)) (laid-after _ _ (c .before .before .lay-behind .ensures) (c .before .before .before .before .of-imp-files .ensures ∙ ap (λ g. value (cursor impFileNumbers g)) (c .before .before .before .before .before .imp-files .ensures)))))

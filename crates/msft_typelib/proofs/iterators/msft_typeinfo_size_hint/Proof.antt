@@ -12,8 +12,8 @@ size-hint-requires c κs = search needs
 of-size-requires : tie.Need-of-size-requires
 of-size-requires c κs = search needs
 
-lay-requires : tie.Need-lay-requires
-lay-requires c κs = search needs
+lay-behind-requires : tie.Need-lay-behind-requires
+lay-behind-requires c κs = search needs
 
 same-length : tie.Need-same-length
 same-length c = search needs
@@ -24,4 +24,4 @@ returns c = rw (library-is (c .before .before .before .before .before .before .b
 pub msft-typeinfo-size-hint-spec : {M : Type 1} → statement M
 msft-typeinfo-size-hint-spec =
     tie.close
-    (tie.spec parse-requires size-hint-requires of-size-requires lay-requires same-length returns)
+    (tie.spec parse-requires size-hint-requires of-size-requires lay-behind-requires same-length returns)

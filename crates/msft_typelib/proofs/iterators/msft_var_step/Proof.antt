@@ -9,5 +9,5 @@ pub msft-var-step-spec : {M : Type 1} → statement M
 msft-var-step-spec =
     tie.close
     (tie.spec
-    (λ c κs. search needs) (λ c κs. search needs) (λ c κs. search needs) (λ c κs. search needs) (λ c. search needs)
-    (λ c. laid-as _ (c .before .before .lay .ensures) (c .before .before .before .before .before .before .refusal .ensures) (c .before .before .before .before .of-var-step .ensures ∙ ap (step varNumbers) (c .before .before .before .before .before .step .ensures))))
+    (λ c κs. search needs) (λ c κs. search needs) (λ c κs. search needs) (λ c. search needs)
+    (λ c. laid-as _ (c .before .before .lay .ensures) (c .before .before .before .before .of-var-step .ensures ∙ ap (step varNumbers) (c .before .before .before .before .before .step .ensures))))

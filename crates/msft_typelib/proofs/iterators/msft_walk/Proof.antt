@@ -10,5 +10,5 @@ pub msft-walk-spec : {M : Type 1} → statement M
 msft-walk-spec =
     tie.close
     (tie.spec
-    (λ c κs. search needs) (λ c κs. search needs) (λ c κs. search needs) (λ c κs. search needs) (λ c. search needs)
-    (λ c. laid-as _ (c .before .before .lay .ensures) (c .before .before .before .before .before .before .refusal .ensures) (c .before .before .before .before .of-walk .ensures ∙ ap (map size) (c .before .before .before .before .before .walk .ensures))))
+    (λ c κs. search needs) (λ c κs. search needs) (λ c κs. search needs) (λ c. search needs)
+    (λ c. laid-as _ (c .before .before .lay .ensures) (c .before .before .before .before .of-walk .ensures ∙ ap (map size) (c .before .before .before .before .before .walk .ensures))))

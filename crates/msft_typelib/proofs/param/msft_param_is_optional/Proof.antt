@@ -1,6 +1,5 @@
-use Rattle.replies.specs.Call.{truth}
-use Rattle.replies.specs.CallLaws.{replied}
-use mathlib.Core.Path.{ap}
+use Rattle.replies.specs.Call.{reply, truth}
+use mathlib.Core.Path.{_∙_, ap}
 use borrow.Author.Needs.{needs}
 use Rattle.msft_typelib.proofs.param.msft_param_is_optional.Statement.{statement}
 use Rattle.msft_typelib.proofs.param.msft_param_is_optional.Tie as tie
@@ -9,5 +8,5 @@ pub msft-param-is-optional-spec : {M : Type 1} → statement M
 msft-param-is-optional-spec =
     tie.close
     (tie.spec
-    (λ c κs. search needs) (λ c κs. search needs) (λ c κs. search needs)
-    (λ c. replied (c .of-bool .ensures) (c .before .before .refusal .ensures) (ap truth (c .before .is-optional .ensures))))
+    (λ c κs. search needs) (λ c κs. search needs)
+    (λ c. c .of-bool .ensures ∙ ap reply (ap truth (c .before .is-optional .ensures))))

@@ -1,7 +1,6 @@
-use Rattle.replies.specs.Call.{kindNumber}
-use Rattle.replies.specs.CallLaws.{replied}
+use Rattle.replies.specs.Call.{kindNumber, reply}
 use Rattle.records.specs.Answer.{map}
-use mathlib.Core.Path.{ap}
+use mathlib.Core.Path.{_∙_, ap}
 use borrow.Author.Needs.{needs}
 use Rattle.msft_typelib.proofs.typeinfo.msft_typeinfo_typekind.Statement.{statement}
 use Rattle.msft_typelib.proofs.typeinfo.msft_typeinfo_typekind.Tie as tie
@@ -10,5 +9,5 @@ pub msft-typeinfo-typekind-spec : {M : Type 1} → statement M
 msft-typeinfo-typekind-spec =
     tie.close
     (tie.spec
-    (λ c κs. search needs) (λ c κs. search needs) (λ c κs. search needs)
-    (λ c. replied (c .of-kind .ensures) (c .before .before .refusal .ensures) (ap (map kindNumber) (c .before .typekind .ensures))))
+    (λ c κs. search needs) (λ c κs. search needs)
+    (λ c. c .of-kind .ensures ∙ ap reply (ap (map kindNumber) (c .before .typekind .ensures))))

@@ -1,6 +1,5 @@
-use Rattle.replies.specs.Call.{bits32}
-use Rattle.replies.specs.CallLaws.{number-is, replied}
-use mathlib.Core.Path.{ap, refl}
+use Rattle.replies.specs.Call.{bits32, reply}
+use mathlib.Core.Path.{_∙_, ap}
 use borrow.Author.Needs.{needs}
 use Rattle.msft_typelib.proofs.typeinfos.msft_var_memid.Statement.{statement}
 use Rattle.msft_typelib.proofs.typeinfos.msft_var_memid.Tie as tie
@@ -9,5 +8,5 @@ pub msft-var-memid-spec : {M : Type 1} → statement M
 msft-var-memid-spec =
     tie.close
     (tie.spec
-    (λ c κs. search needs) (λ c κs. search needs) (λ c κs. search needs)
-    (λ c. rw (number-is (c .before .before .before .before .before .args .s .now) (c .before .before .before .parse .result) (c .before .before .before .parse .ensures)) (replied (c .of-i32 .ensures) refl (ap bits32 (c .before .var-memid .ensures)))))
+    (λ c κs. search needs) (λ c κs. search needs)
+    (λ c. c .of-i32 .ensures ∙ ap reply (ap bits32 (c .before .var-memid .ensures))))

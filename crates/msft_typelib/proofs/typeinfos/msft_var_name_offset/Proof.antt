@@ -1,6 +1,5 @@
-use Rattle.replies.specs.Call.{bits32}
-use Rattle.replies.specs.CallLaws.{number-is, replied}
-use mathlib.Core.Path.{ap, refl}
+use Rattle.replies.specs.Call.{bits32, reply}
+use mathlib.Core.Path.{_∙_, ap}
 use borrow.Author.Needs.{needs}
 use Rattle.msft_typelib.proofs.typeinfos.msft_var_name_offset.Statement.{statement}
 use Rattle.msft_typelib.proofs.typeinfos.msft_var_name_offset.Tie as tie
@@ -9,5 +8,5 @@ pub msft-var-name-offset-spec : {M : Type 1} → statement M
 msft-var-name-offset-spec =
     tie.close
     (tie.spec
-    (λ c κs. search needs) (λ c κs. search needs) (λ c κs. search needs)
-    (λ c. rw (number-is (c .before .before .before .before .before .args .s .now) (c .before .before .before .parse .result) (c .before .before .before .parse .ensures)) (replied (c .of-i32 .ensures) refl (ap bits32 (c .before .var-name-offset .ensures)))))
+    (λ c κs. search needs) (λ c κs. search needs)
+    (λ c. c .of-i32 .ensures ∙ ap reply (ap bits32 (c .before .var-name-offset .ensures))))

@@ -10,5 +10,5 @@ pub msft-var-record-size-spec : {M : Type 1} → statement M
 msft-var-record-size-spec =
     tie.close
     (tie.spec
-    (λ c κs. search needs) (λ c κs. search needs) (λ c κs. search needs) (λ c κs. search needs) (λ c. search needs)
-    (λ c. laid-as _ (c .before .before .lay .ensures) (c .before .before .before .before .before .before .refusal .ensures) (c .before .before .before .before .of-size .ensures ∙ ap (map size) (c .before .before .before .before .before .record-size .ensures))))
+    (λ c κs. search needs) (λ c κs. search needs) (λ c κs. search needs) (λ c. search needs)
+    (λ c. laid-as _ (c .before .before .lay .ensures) (c .before .before .before .before .of-size .ensures ∙ ap (map size) (c .before .before .before .before .before .record-size .ensures))))

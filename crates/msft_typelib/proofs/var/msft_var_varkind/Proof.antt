@@ -1,6 +1,5 @@
-use Rattle.replies.specs.Call.{bits16}
-use Rattle.replies.specs.CallLaws.{replied}
-use mathlib.Core.Path.{ap}
+use Rattle.replies.specs.Call.{bits16, reply}
+use mathlib.Core.Path.{_∙_, ap}
 use borrow.Author.Needs.{needs}
 use Rattle.msft_typelib.proofs.var.msft_var_varkind.Statement.{statement}
 use Rattle.msft_typelib.proofs.var.msft_var_varkind.Tie as tie
@@ -9,5 +8,5 @@ pub msft-var-varkind-spec : {M : Type 1} → statement M
 msft-var-varkind-spec =
     tie.close
     (tie.spec
-    (λ c κs. search needs) (λ c κs. search needs) (λ c κs. search needs)
-    (λ c. replied (c .of-i16 .ensures) (c .before .before .refusal .ensures) (ap bits16 (c .before .varkind .ensures))))
+    (λ c κs. search needs) (λ c κs. search needs)
+    (λ c. c .of-i16 .ensures ∙ ap reply (ap bits16 (c .before .varkind .ensures))))

@@ -11,9 +11,6 @@ use Rattle.replies.proofs.reply.lay.Tie as tie
 slice-aggregate-put-row : tie.Need-slice-aggregate-put-row
 slice-aggregate-put-row c = search needs
 
-start-requires : tie.Need-start-requires
-start-requires c κs = search needs
-
 put-row-requires : tie.Need-put-row-requires
 put-row-requires c κs = search needs
 
@@ -30,13 +27,13 @@ minus-requires : tie.Need-minus-requires
 minus-requires c κs = search needs
 
 returns : tie.Need-returns
-returns c = lay-declined _ (toldRow (c .before .before .before .before .before .before .before .args .row)) _ _ _ (c .before .before .before .before .start .ensures) (c .before .before .before .put-row .ensures) (c .before .if1 .taken) (c .minus .ensures)
+returns c = lay-declined (toldRow (c .before .before .before .before .before .before .args .row)) _ _ (c .before .before .before .put-row .ensures) (c .before .if1 .taken) (c .minus .ensures)
 
 minus-requires-2 : tie.Need-minus-requires-2
 minus-requires-2 c κs = search needs
 
 returns-2 : tie.Need-returns-2
-returns-2 c = lay-no-room _ (toldRow (c .before .before .before .before .before .before .before .before .args .row)) _ _ _ (c .before .before .before .before .before .start .ensures) (c .before .before .before .before .put-row .ensures) (row-short (c .before .before .before .before .before .before .before .before .args .row)) (c .before .before .if1 .left) (c .before .if2 .taken) (c .minus2 .ensures)
+returns-2 c = lay-no-room (toldRow (c .before .before .before .before .before .before .before .args .row)) _ _ (c .before .before .before .before .put-row .ensures) (row-short (c .before .before .before .before .before .before .before .args .row)) (c .before .before .if1 .left) (c .before .if2 .taken) (c .minus2 .ensures)
 
 slice-relend-prefix-put-row : tie.Need-slice-relend-prefix-put-row
 slice-relend-prefix-put-row c = search needs
@@ -54,14 +51,13 @@ same-length : tie.Need-same-length
 same-length c = search needs
 
 returns-3 : tie.Need-returns-3
-returns-3 c = lay-done _ (toldRow (c .before .before .before .before .before .before .before .before .before .before .before .args .row)) _ _ _ (c .before .before .before .before .before .before .before .before .start .ensures) (c .before .before .before .before .before .before .before .put-row .ensures) (row-short (c .before .before .before .before .before .before .before .before .before .before .before .args .row)) (c .before .before .before .before .before .if1 .left) (c .before .before .before .before .if2 .left) (omega arith) (c .before .before .put-row2 .ensures)
+returns-3 c = lay-done (toldRow (c .before .before .before .before .before .before .before .before .before .before .args .row)) _ _ (c .before .before .before .before .before .before .before .put-row .ensures) (row-short (c .before .before .before .before .before .before .before .before .before .before .args .row)) (c .before .before .before .before .before .if1 .left) (c .before .before .before .before .if2 .left) (omega arith) (c .before .before .put-row2 .ensures)
 
 pub lay-spec : {M : Type 1} → statement M
 lay-spec =
     tie.close
     (tie.spec
     slice-aggregate-put-row
-    start-requires
     put-row-requires
     sub-minus
     sub-minus-2

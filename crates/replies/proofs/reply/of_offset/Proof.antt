@@ -1,4 +1,4 @@
-use Rattle.replies.specs.CallLaws.{early, valued, declined}
+use Rattle.replies.specs.CallLaws.{valued, declined}
 use Rattle.rows.specs.ValueLaws.{back}
 use Rattle.replies.specs.Call.{bits32}
 use mir.Syntax.{w32}
@@ -9,12 +9,6 @@ use mathlib.Core.Path.{refl, ap}
 use borrow.Author.Needs.{needs}
 use Rattle.replies.proofs.reply.of_offset.Statement.{statement}
 use Rattle.replies.proofs.reply.of_offset.Tie as tie
-
-minus-requires : tie.Need-minus-requires
-minus-requires c κs = search needs
-
-returns : tie.Need-returns
-returns c = early (λ a. bits32 (toldOffset a)) _ (c .before .before .args .a) (omega arith) (c .before .if1 .taken) (c .minus .ensures)
 
 enum-known-a : tie.Need-enum-known-a
 enum-known-a c = search needs
@@ -28,25 +22,23 @@ cast-result c = search needs
 enum-known-a-2 : tie.Need-enum-known-a-2
 enum-known-a-2 c = search needs
 
-minus-requires-2 : tie.Need-minus-requires-2
-minus-requires-2 c κs = search needs
+minus-requires : tie.Need-minus-requires
+minus-requires c κs = search needs
+
+returns : tie.Need-returns
+returns c = valued (λ a. bits32 (toldOffset a)) (omega arith) (c .before .before .before .a .given .1) (ap value (back w32 (c .before .before .before .a .given .0 .0 .0) (c .before .struct-told .given .0 .1) (c .unsigned32 .ensures)))
 
 returns-2 : tie.Need-returns-2
-returns-2 c = valued (λ a. bits32 (toldOffset a)) _ _ (omega arith) (c .before .before .before .before .before .if1 .left) (c .before .before .before .a .given .1) (ap value (back w32 (c .before .before .before .a .given .0 .0 .0) (c .before .struct-told .given .0 .1) (c .unsigned32 .ensures)))
-
-returns-3 : tie.Need-returns-3
-returns-3 c = declined (λ a. bits32 (toldOffset a)) _ _ (omega arith) (c .before .before .before .before .if1 .left) (c .before .before .a2 .given .1) refl (c .minus2 .ensures)
+returns-2 c = declined (λ a. bits32 (toldOffset a)) (omega arith) (c .before .before .a2 .given .1) refl (c .minus .ensures)
 
 pub of-offset-spec : {M : Type 1} → statement M
 of-offset-spec =
     tie.close
     (tie.spec
-    minus-requires
-    returns
     enum-known-a
     unsigned32-requires
     cast-result
     enum-known-a-2
-    minus-requires-2
-    returns-2
-    returns-3)
+    minus-requires
+    returns
+    returns-2)

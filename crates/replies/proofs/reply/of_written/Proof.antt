@@ -19,13 +19,13 @@ minus-requires : tie.Need-minus-requires
 minus-requires c κs = search needs
 
 returns : tie.Need-returns
-returns c = counted toldUsize (c .before .before .before .before .args .a) (c .if1 .taken) (c .before .before .a .given .1) refl
+returns c = counted toldUsize (c .if1 .taken) (c .before .before .a .given .1) refl
 
 returns-2 : tie.Need-returns-2
-returns-2 c = uncounted toldUsize (c .before .before .before .before .args .a) (c .if1 .left) (c .before .before .a .given .1) refl
+returns-2 c = uncounted toldUsize (c .if1 .left) (c .before .before .a .given .1) refl
 
 returns-3 : tie.Need-returns-3
-returns-3 c = unwritten toldUsize (c .before .before .before .before .args .a) (omega arith) (c .before .before .a2 .given .1) refl (c .minus .ensures)
+returns-3 c = unwritten toldUsize (omega arith) (c .before .before .a2 .given .1) refl (c .minus .ensures)
 
 pub of-written-spec : {M : Type 1} → statement M
 of-written-spec =

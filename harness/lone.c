@@ -1,0 +1,74 @@
+/* Calls about bytes that are no library: records, cursors and a chain alone. Prints what each replies. */
+#include <stdio.h>
+#include <stdlib.h>
+
+#include "msft_typelib.h"
+
+enum { VAR_SIZE = 20, REF_SIZE = 16, PARAM_SIZE = 12, MOST_BYTES = 16777216 };
+
+static void say(const char *what, int64_t reply)
+{
+    printf("%s: %d\n", what, (int)reply);
+}
+
+/* A variable's record of just its fixed part: its size, then zeros but for the flags. */
+static void variable(void)
+{
+    uint8_t var[VAR_SIZE] = {VAR_SIZE}, out[16];
+    var[8] = 5;
+    say("a variable", msft_var_from_raw(var, VAR_SIZE, 0, VAR_SIZE, out, sizeof out));
+    say("its flags", msft_var_flags(var, VAR_SIZE, 0, VAR_SIZE));
+    say("its attribute", msft_var_help_context(var, VAR_SIZE, 0, VAR_SIZE));
+    say("no room", msft_var_from_raw(var, VAR_SIZE, 0, VAR_SIZE, out, sizeof out - 1));
+    say("a byte short", msft_var_from_raw(var, VAR_SIZE - 1, 0, VAR_SIZE - 1, out, sizeof out));
+    say("past the end", msft_var_from_raw(var, VAR_SIZE, 1, VAR_SIZE, out, sizeof out));
+    say("a step", msft_var_step(var, VAR_SIZE, 0, VAR_SIZE, 1, out, sizeof out));
+    say("no bytes", msft_var_flags(var, 0, 0, VAR_SIZE));
+}
+
+/* Two parameters, stepped to their end. */
+static void parameters(void)
+{
+    uint8_t params[2 * PARAM_SIZE] = {0}, out[40];
+    msft_cursor c = {0, sizeof params, 2};
+    int64_t reply;
+    while ((reply = msft_param_step(params, sizeof params, MSFT_CURSOR(c), out, sizeof out)) > 0) {
+        say("a parameter", reply);
+        c = msft_unpack_cursor(out + MSFT_STEP);
+    }
+    say("behind them", reply);
+}
+
+/* A chain of one record, which ends or comes round. */
+static void chain(void)
+{
+    uint8_t ref[REF_SIZE] = {0}, out[8];
+    say("a circle", msft_walk(ref, REF_SIZE, 0, REF_SIZE, 0, out, sizeof out));
+    ref[12] = 0xff;
+    ref[13] = 0xff;
+    ref[14] = 0xff;
+    ref[15] = 0xff;
+    say("a chain", msft_walk(ref, REF_SIZE, 0, REF_SIZE, 0, out, sizeof out));
+    say("its records", (int64_t)msft_unpack_size(out));
+}
+
+/* What parses refuses such bytes, and over-long bytes are refused by all. */
+static int refused(void)
+{
+    uint8_t none[VAR_SIZE] = {0}, *bytes = calloc(MOST_BYTES + 1, 1);
+    if (bytes == NULL)
+        return 2;
+    say("the locale", msft_lcid(none, sizeof none));
+    say("as long as may be", msft_var_flags(bytes, MOST_BYTES, 0, VAR_SIZE));
+    say("over-long", msft_var_flags(bytes, MOST_BYTES + 1, 0, VAR_SIZE));
+    free(bytes);
+    return 0;
+}
+
+int main(void)
+{
+    variable();
+    parameters();
+    chain();
+    return refused();
+}
