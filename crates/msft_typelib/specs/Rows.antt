@@ -4,9 +4,10 @@ use Prim.Native.Nat.{ℕ, _-_}
 use Rattle.records.specs.Answer.{Answer, value, map}
 use Rattle.records.specs.Counted.{arrayDescSize, impFileSize}
 use Rattle.records.specs.Layout.{Layout, arrayDesc, impFile, typeInfoBase}
-use Rattle.records.specs.Record.{bitsOf, field, signed32}
+use Rattle.records.specs.Record.{bitsOf, field}
 use Rattle.records.specs.Types.{kindOf}
 use Rattle.records.specs.declared.typeinfo.TypeInfoEntry.{TypeInfoEntry}
+use Rattle.typelib.specs.Header.{typeCount}
 use Rattle.typelib.specs.Descriptors.{arrayDescAt, typeDescAt, typeDescription}
 use Rattle.typelib.specs.Names.{guidPlace, libGuid, libHelpstring, libName, nameBytes, nameText, segmentBytes, stringText}
 use Rattle.typelib.specs.References.{hrefIndex, hrefResolved, impFileAt}
@@ -14,11 +15,10 @@ use Rattle.typelib.specs.Tables.{lent, segmentOf}
 use Rattle.typelib.specs.TypeInfos.{funcName, typeinfoOf, typeinfoOffset, varName}
 use Rattle.constants.specs.Constants.{constAt}
 use Rattle.impltypes.specs.Chain.{implTypesOf}
-use Rattle.table_cursors.specs.Cursors.{guidsOf, impFilesOf, importsOf, namesOf, typeinfoStep}
+use Rattle.table_cursors.specs.Cursors.{guidsOf, impFilesOf, importsOf, namesOf, typeinfoStep, typeinfosOf}
 use Rattle.table_cursors.specs.Members.{memberName}
 use Rattle.table_cursors.specs.declared.iterators.TypeInfoCursor.{TypeInfoCursor}
-use Rattle.replies.specs.At.{typeinfosAt}
-use Rattle.replies.specs.Call.{bits32, inLibrary, kindNumber}
+use Rattle.replies.specs.Call.{inLibrary, kindNumber}
 use Rattle.rows.specs.Values.{chainCursor, constant, cursor, description, guidNumbers, impFileNumbers, importNumbers, nameNumbers, pair, place, reference, size, step, typeinfoNumbers}
 
 -- ---- of a record
@@ -41,7 +41,7 @@ kindIn s at len = map kindNumber (map kindOf (map (bitsOf 0 4) (field typeInfoBa
 -- ---- of the library: segments, names, strings and GUIDs
 
 abbrev pub segmentRow : List ℕ → ℕ → Answer (List ℕ)
-segmentRow s index = inLibrary s (λ lib. map place (segmentOf s lib index))
+segmentRow s index = inLibrary s (λ lib. map place (segmentOf lib index))
 
 abbrev pub segmentDataRow : List ℕ → ℕ → Answer (List ℕ)
 segmentDataRow s index = inLibrary s (λ lib. map place (segmentBytes s lib index))
@@ -70,7 +70,7 @@ libHelpstringRow s = inLibrary s (λ lib. map place (libHelpstring s lib))
 -- ---- typeinfos, and the names of their members
 
 abbrev pub typeinfoOffsetBits : List ℕ → ℕ → Answer ℕ
-typeinfoOffsetBits s index = inLibrary s (λ lib. bits32 (signed32 (typeinfoOffset s lib index)))
+typeinfoOffsetBits s index = inLibrary s (λ lib. typeinfoOffset s lib index)
 
 abbrev pub typeinfoRow : List ℕ → ℕ → Answer (List ℕ)
 typeinfoRow s index = inLibrary s (λ lib. map place (typeinfoOf s lib index))
@@ -110,26 +110,26 @@ constantRow s word = inLibrary s (λ lib. map constant (constAt s lib word))
 -- ---- cursors
 
 abbrev pub guidsRow : List ℕ → Answer (List ℕ)
-guidsRow s = inLibrary s (λ lib. value (cursor guidNumbers (guidsOf s lib)))
+guidsRow s = inLibrary s (λ lib. map (cursor guidNumbers) (guidsOf s lib))
 
 abbrev pub importsRow : List ℕ → Answer (List ℕ)
-importsRow s = inLibrary s (λ lib. value (cursor importNumbers (importsOf s lib)))
+importsRow s = inLibrary s (λ lib. map (cursor importNumbers) (importsOf s lib))
 
 abbrev pub impFilesRow : List ℕ → Answer (List ℕ)
-impFilesRow s = inLibrary s (λ lib. value (cursor impFileNumbers (impFilesOf s lib)))
+impFilesRow s = inLibrary s (λ lib. map (cursor impFileNumbers) (impFilesOf s lib))
 
 abbrev pub namesRow : List ℕ → Answer (List ℕ)
-namesRow s = inLibrary s (λ lib. value (cursor nameNumbers (namesOf s lib)))
+namesRow s = inLibrary s (λ lib. map (cursor nameNumbers) (namesOf s lib))
 
 abbrev pub implTypesRow : List ℕ → TypeInfoEntry → Answer (List ℕ)
 implTypesRow s ti = inLibrary s (λ lib. map chainCursor (implTypesOf s lib ti))
 
 -- the typeinfos from the first; what a step of theirs lays; how many are left
 abbrev pub typeinfosRow : List ℕ → Answer (List ℕ)
-typeinfosRow s = inLibrary s (λ lib. value (cursor typeinfoNumbers (typeinfosAt 0)))
+typeinfosRow s = inLibrary s (λ lib. map (cursor typeinfoNumbers) (typeinfosOf s))
 
 abbrev pub typeinfoStepRow : List ℕ → TypeInfoCursor → Answer (List ℕ)
 typeinfoStepRow s c = inLibrary s (λ lib. step typeinfoNumbers (typeinfoStep s lib c))
 
 abbrev pub typesLeftRow : List ℕ → ℕ → Answer (List ℕ)
-typesLeftRow s index = inLibrary s (λ lib. value (size (lib .count - index)))
+typesLeftRow s index = inLibrary s (λ lib. value (size (typeCount lib - index)))

@@ -14,6 +14,7 @@ use table_cursors::iterators::ImpFileCursor;
 use table_cursors::iterators::ImportCursor;
 use table_cursors::iterators::NameCursor;
 use table_cursors::iterators::TypeInfoCursor;
+use typelib::TypeInfoIndex;
 use typelib::TypeLib;
 ghost use Rattle.replies.specs.At.{chainAt, funcAt, funcsAt, guidsAt, impFilesAt, importsAt, namesAt, paramsAt, typeinfoAt, typeinfosAt, varsAt};
 ghost use Rattle.replies.specs.Call.{laid, outcome};
@@ -236,7 +237,7 @@ pub extern "C" fn msft_typeinfo_step(s: &[u8], index: usize, out: &mut [u8]) -> 
     let lib = p.lib;
     reply::lay_behind(
         p.number,
-        rows::of_typeinfo_step(TypeInfoCursor { index }.step(s, lib)),
+        rows::of_typeinfo_step(typeinfos_from(index).step(s, lib)),
         out,
     )
 }
@@ -280,7 +281,7 @@ pub extern "C" fn msft_typeinfos(s: &[u8], out: &mut [u8]) -> i64
 {
     reply::lay_behind(
         reply::refusal(s),
-        rows::of_typeinfos(table_cursors::iterators::typeinfos()),
+        rows::of_typeinfos(table_cursors::iterators::typeinfos(s)),
         out,
     )
 }
@@ -292,6 +293,14 @@ pub extern "C" fn msft_typeinfo_size_hint(s: &[u8], index: usize, out: &mut [u8]
 {
     let p = TypeLib::parse(s);
     let lib = p.lib;
-    let left = TypeInfoCursor { index }.size_hint(lib);
+    let left = typeinfos_from(index).size_hint(lib);
     reply::lay_behind(p.number, rows::of_size(UsizeAnswer::Value(left)), out)
+}
+
+// The cursor over typeinfos at an index.
+fn typeinfos_from(index: usize) -> TypeInfoCursor
+    ensures { λ r. ⌜ r ≡ typeinfosAt index ⌝ }
+{
+    let index = TypeInfoIndex(index);
+    TypeInfoCursor { index }
 }

@@ -14,7 +14,7 @@ pub extern "C" fn msft_segment(s: &[u8], index: usize, out: &mut [u8]) -> i64
 {
     let p = TypeLib::parse(s);
     let lib = p.lib;
-    reply::lay_behind(p.number, rows::of_place(lib.segment(s, index)), out)
+    reply::lay_behind(p.number, rows::of_place(lib.segment(index)), out)
 }
 
 // A name's bytes, in the code page the library was built in.

@@ -40,7 +40,7 @@ abbrev pub namesAt : ℕ → ℕ → ℕ → NameCursor
 namesAt pos end start = record { pos = pos; end = end; start = start }
 
 abbrev pub typeinfosAt : ℕ → TypeInfoCursor
-typeinfosAt index = record { index = index }
+typeinfosAt index = record { index = record { 0 = index } }
 
 abbrev pub chainAt : ℕ → ℕ → ℕ → ImplTypeCursor
 chainAt at len next = record { table = record { at = at; len = len }; next = next }

@@ -106,10 +106,10 @@ pub fn of_kind(a: KindAnswer) -> i64
 }
 
 pub fn of_offset(a: OffsetAnswer) -> i64
-    ensures { λ r. ⌜ toZ w64 (ofZ w64 r) ≡ reply (bits32 (toldOffset a)) ⌝ }
+    ensures { λ r. ⌜ toZ w64 (ofZ w64 r) ≡ reply (toldOffset a) ⌝ }
 {
     match a {
-        OffsetAnswer::Value(x) => util::unsigned32(x.0) as i64,
+        OffsetAnswer::Value(x) => x.0 as i64,
         OffsetAnswer::Refused(n) => minus(n),
     }
 }

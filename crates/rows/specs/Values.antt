@@ -109,7 +109,7 @@ abbrev pub nameNumbers : NameCursor → List ℕ
 nameNumbers c = c .pos ∷ c .end ∷ c .start ∷ []
 
 abbrev pub typeinfoNumbers : TypeInfoCursor → List ℕ
-typeinfoNumbers c = c .index ∷ []
+typeinfoNumbers c = c .index .0 ∷ []
 
 -- the cursor alone
 abbrev pub cursor : {C : Type 0} → (C → List ℕ) → C → List ℕ

@@ -22,15 +22,15 @@ use records::arraydesc::BoundAnswer;
 use records::guidentry::GuidAnswer;
 use records::refrecord::RefRecord;
 use records::types::TypeDescription;
-use table_cursors::iterators::GuidCursor;
+use table_cursors::iterators::GuidsAnswer;
 use table_cursors::iterators::GuidStep;
-use table_cursors::iterators::ImpFileCursor;
+use table_cursors::iterators::ImpFilesAnswer;
 use table_cursors::iterators::ImpFileStep;
-use table_cursors::iterators::ImportCursor;
+use table_cursors::iterators::ImportsAnswer;
 use table_cursors::iterators::ImportStep;
-use table_cursors::iterators::NameCursor;
+use table_cursors::iterators::NamesAnswer;
 use table_cursors::iterators::NameStep;
-use table_cursors::iterators::TypeInfoCursor;
+use table_cursors::iterators::TypeInfosAnswer;
 use table_cursors::iterators::TypeInfoStep;
 use typelib::descriptors::ArrayDescAnswer;
 use typelib::descriptors::DescriptionAnswer;
@@ -49,7 +49,7 @@ ghost use Rattle.cursors.specs.Cursors.{yielded};
 ghost use Rattle.typelib.specs.Told.{toldArrayDesc, toldDescription, toldImpFile, toldIndex, toldPair, toldHreftype, toldResolved, toldTypeInfo};
 ghost use Rattle.constants.specs.Told.{toldConst};
 ghost use Rattle.cursors.specs.Told.{toldFuncStep, toldFuncs, toldParamStep, toldParams, toldVarStep, toldVars};
-ghost use Rattle.table_cursors.specs.Told.{toldGuidStep, toldImpFileStep, toldImportStep, toldNameStep, toldTypeInfoStep};
+ghost use Rattle.table_cursors.specs.Told.{toldGuids, toldGuidStep, toldImpFiles, toldImpFileStep, toldImports, toldImportStep, toldNames, toldNameStep, toldTypeInfos, toldTypeInfoStep};
 ghost use Rattle.rows.specs.Told.{toldRow};
 ghost use Rattle.rows.specs.Values.{bound, chainCursor, chainStep, constant, cursor, description, funcNumbers, guidNumbers, impFileNumbers, importNumbers, nameNumbers, entryStep, pair, paramNumbers, place, reference, size, step, typeinfoNumbers, varNumbers};
 
@@ -245,34 +245,52 @@ pub fn of_params(a: ParamsAnswer) -> Row
     }
 }
 
-pub fn of_guids(c: GuidCursor) -> Row
-    ensures { λ r. ⌜ toldRow r ≡ value (cursor guidNumbers c) ⌝ }
+pub fn of_guids(a: GuidsAnswer) -> Row
+    ensures { λ r. ⌜ toldRow r ≡ map (cursor guidNumbers) (toldGuids a) ⌝ }
 {
-    Row::Plain(Longs::Two(c.pos as u64, c.end as u64))
+    match a {
+        GuidsAnswer::Value(c) => Row::Plain(Longs::Two(c.pos as u64, c.end as u64)),
+        GuidsAnswer::Refused(n) => Row::Refused(n),
+    }
 }
 
-pub fn of_imports(c: ImportCursor) -> Row
-    ensures { λ r. ⌜ toldRow r ≡ value (cursor importNumbers c) ⌝ }
+pub fn of_imports(a: ImportsAnswer) -> Row
+    ensures { λ r. ⌜ toldRow r ≡ map (cursor importNumbers) (toldImports a) ⌝ }
 {
-    Row::Plain(Longs::Two(c.pos as u64, c.end as u64))
+    match a {
+        ImportsAnswer::Value(c) => Row::Plain(Longs::Two(c.pos as u64, c.end as u64)),
+        ImportsAnswer::Refused(n) => Row::Refused(n),
+    }
 }
 
-pub fn of_imp_files(c: ImpFileCursor) -> Row
-    ensures { λ r. ⌜ toldRow r ≡ value (cursor impFileNumbers c) ⌝ }
+pub fn of_imp_files(a: ImpFilesAnswer) -> Row
+    ensures { λ r. ⌜ toldRow r ≡ map (cursor impFileNumbers) (toldImpFiles a) ⌝ }
 {
-    Row::Plain(Longs::Two(c.pos as u64, c.end as u64))
+    match a {
+        ImpFilesAnswer::Value(c) => Row::Plain(Longs::Two(c.pos as u64, c.end as u64)),
+        ImpFilesAnswer::Refused(n) => Row::Refused(n),
+    }
 }
 
-pub fn of_names(c: NameCursor) -> Row
-    ensures { λ r. ⌜ toldRow r ≡ value (cursor nameNumbers c) ⌝ }
+pub fn of_names(a: NamesAnswer) -> Row
+    ensures { λ r. ⌜ toldRow r ≡ map (cursor nameNumbers) (toldNames a) ⌝ }
 {
-    Row::Plain(Longs::Three(c.pos as u64, c.end as u64, c.start as u64))
+    match a {
+        NamesAnswer::Value(c) => Row::Plain(Longs::Three(c.pos as u64, c.end as u64, c.start as u64)),
+        NamesAnswer::Refused(n) => Row::Refused(n),
+    }
 }
 
-pub fn of_typeinfos(c: TypeInfoCursor) -> Row
-    ensures { λ r. ⌜ toldRow r ≡ value (cursor typeinfoNumbers c) ⌝ }
+pub fn of_typeinfos(a: TypeInfosAnswer) -> Row
+    ensures { λ r. ⌜ toldRow r ≡ map (cursor typeinfoNumbers) (toldTypeInfos a) ⌝ }
 {
-    Row::Plain(Longs::One(c.index as u64))
+    match a {
+        TypeInfosAnswer::Value(c) => {
+            let index = c.index;
+            Row::Plain(Longs::One(index.0 as u64))
+        }
+        TypeInfosAnswer::Refused(n) => Row::Refused(n),
+    }
 }
 
 pub fn of_func_step(a: FuncStep) -> Row
@@ -366,11 +384,10 @@ pub fn of_typeinfo_step(a: TypeInfoStep) -> Row
     ensures { λ r. ⌜ toldRow r ≡ step typeinfoNumbers (toldTypeInfoStep a) ⌝ }
 {
     match a {
-        TypeInfoStep::Record(p, c) => Row::Plain(Longs::Three(
-            p.at as u64,
-            p.len as u64,
-            c.index as u64,
-        )),
+        TypeInfoStep::Record(p, c) => {
+            let index = c.index;
+            Row::Plain(Longs::Three(p.at as u64, p.len as u64, index.0 as u64))
+        }
         TypeInfoStep::Refused(n, _) => Row::Refused(n),
     }
 }

@@ -1,44 +1,38 @@
-use Rattle.replies.specs.CallLaws.{valued, declined}
-use Rattle.rows.specs.ValueLaws.{back}
-use Rattle.replies.specs.Call.{bits32}
-use mir.Syntax.{w32}
-use Rattle.typelib.specs.Told.{toldOffset}
-use Rattle.records.specs.Answer.{Answer, value}
+use mathlib.Core.Path.{refl}
 use native.Mathlib.Omega.{arith}
-use mathlib.Core.Path.{refl, ap}
+use Rattle.typelib.specs.Told.{toldOffset}
+use Rattle.replies.specs.CallLaws.{valued, declined}
 use borrow.Author.Needs.{needs}
 use Rattle.replies.proofs.reply.of_offset.Statement.{statement}
 use Rattle.replies.proofs.reply.of_offset.Tie as tie
+use Rattle.replies.proofs.reply.of_offset.Reads as reads
+use Rattle.replies.proofs.reply.of_offset.Lts as lts
+use Rattle.replies.proofs.reply.minus.Reads as minus-reads
 
+-- src/reply.rt:112:29
 enum-known-a : tie.Need-enum-known-a
 enum-known-a c = search needs
 
-unsigned32-requires : tie.Need-unsigned32-requires
-unsigned32-requires c κs = search needs
-
+-- src/reply.rt:112:35
 cast-result : tie.Need-cast-result
 cast-result c = search needs
 
+-- src/reply.rt:113:31
 enum-known-a-2 : tie.Need-enum-known-a-2
 enum-known-a-2 c = search needs
 
+-- src/reply.rt:113:37
 minus-requires : tie.Need-minus-requires
 minus-requires c κs = search needs
 
+-- src/reply.rt:108:1
 returns : tie.Need-returns
-returns c = valued (λ a. bits32 (toldOffset a)) (omega arith) (c .before .before .before .a .given .1) (ap value (back w32 (c .before .before .before .a .given .0 .0 .0) (c .before .struct-told .given .0 .1) (c .unsigned32 .ensures)))
+returns c = valued toldOffset (omega arith) (c .before .before .a .given .1) refl
 
+-- src/reply.rt:108:1
 returns-2 : tie.Need-returns-2
-returns-2 c = declined (λ a. bits32 (toldOffset a)) (omega arith) (c .before .before .a2 .given .1) refl (c .minus .ensures)
+returns-2 c = declined toldOffset (omega arith) (c .before .before .a2 .given .1) refl (c .minus .ensures)
 
 pub of-offset-spec : {M : Type 1} → statement M
 of-offset-spec =
-    tie.close
-    (tie.spec
-    enum-known-a
-    unsigned32-requires
-    cast-result
-    enum-known-a-2
-    minus-requires
-    returns
-    returns-2)
+    tie.close (tie.spec enum-known-a cast-result enum-known-a-2 minus-requires returns returns-2)
