@@ -5,7 +5,7 @@ use typelib::TypeLib;
 ghost use Rattle.replies.specs.Call.{bits32, libraryIn, past, reply, truth};
 ghost use Rattle.records.specs.Answer.{map, value};
 ghost use Rattle.records.specs.Record.{bitsOf, flagSet, signed32};
-ghost use Rattle.typelib.specs.Header.{headerField, helpDllFlag};
+ghost use Rattle.typelib.specs.Header.{headerField, helpDllFlag, typeCount};
 ghost use mathlib.Core.Path.{_≡_};
 
 // The word behind the magic.
@@ -221,12 +221,12 @@ pub extern "C" fn msft_parse(s: &[u8]) -> i64
 // How many typeinfos the library has.
 #[no_mangle]
 pub extern "C" fn msft_typeinfo_count(s: &[u8]) -> i64
-    ensures { λ r. ⌜ r ≡ reply (past (now (s .entry)) (value (libraryIn (now (s .entry)) .count))) ⌝ }
+    ensures { λ r. ⌜ r ≡ reply (past (now (s .entry)) (value (typeCount (libraryIn (now (s .entry)))))) ⌝ }
 {
     let p = TypeLib::parse(s);
     let lib = p.lib;
     reply::behind(
         p.number,
-        reply::of_u32(U32Answer::Value(lib.typeinfo_count() as u32)),
+        reply::of_u32(U32Answer::Value(lib.count())),
     )
 }

@@ -7,5 +7,5 @@ pub msft-typeinfo-count-spec : {M : Type 1} → statement M
 msft-typeinfo-count-spec =
     tie.close
     (tie.spec
-    (λ c κs. search needs) (λ c κs. search needs) (λ c. search needs) (λ c κs. search needs) (λ c κs. search needs)
+    (λ c κs. search needs) (λ c κs. search needs) (λ c κs. search needs) (λ c κs. search needs)
     (λ c. rw (library-is (c .before .before .before .before .before .before .args .s .now) (c .before .before .before .before .parse .result) (c .before .before .before .before .parse .ensures), number-is (c .before .before .before .before .before .before .args .s .now) (c .before .before .before .before .parse .result) (c .before .before .before .before .parse .ensures)) (replied _ (c .behind .ensures) (c .before .of-u32 .ensures) (cc))))

@@ -1,3 +1,5 @@
+use mathlib.Core.Path.{ap}
+use Rattle.table_cursors.specs.declared.iterators.TypeInfoCursor.{TypeInfoCursor}
 use Rattle.replies.specs.CallLaws.{number-is, library-is}
 use borrow.Author.Needs.{needs}
 use Rattle.msft_typelib.proofs.iterators.msft_typeinfo_size_hint.Statement.{statement}
@@ -5,6 +7,9 @@ use Rattle.msft_typelib.proofs.iterators.msft_typeinfo_size_hint.Tie as
 
 parse-requires : tie.Need-parse-requires
 parse-requires c κs = search needs
+
+typeinfos-from-requires : tie.Need-typeinfos-from-requires
+typeinfos-from-requires c κs = search needs
 
 size-hint-requires : tie.Need-size-hint-requires
 size-hint-requires c κs = search needs
@@ -19,9 +24,9 @@ same-length : tie.Need-same-length
 same-length c = search needs
 
 returns : tie.Need-returns
-returns c = rw (library-is (c .before .before .before .before .before .before .before .before .before .before .args .s .now) (c .before .before .before .before .before .before .before .parse .result) (c .before .before .before .before .before .before .before .parse .ensures), number-is (c .before .before .before .before .before .before .before .before .before .before .args .s .now) (c .before .before .before .before .before .before .before .parse .result) (c .before .before .before .before .before .before .before .parse .ensures)) (cc)
+returns c = rw (library-is (c .before .before .before .before .before .before .before .before .before .before .before .args .s .now) (c .before .before .before .before .before .before .before .before .parse .result) (c .before .before .before .before .before .before .before .before .parse .ensures), number-is (c .before .before .before .before .before .before .before .before .before .before .before .args .s .now) (c .before .before .before .before .before .before .before .before .parse .result) (c .before .before .before .before .before .before .before .before .parse .ensures)) (cc (ap (λ (x : TypeInfoCursor). x .index .0) (c .before .before .before .before .before .before .typeinfos-from .ensures)))
 
 pub msft-typeinfo-size-hint-spec : {M : Type 1} → statement M
 msft-typeinfo-size-hint-spec =
     tie.close
-    (tie.spec parse-requires size-hint-requires of-size-requires lay-behind-requires same-length returns)
+    (tie.spec parse-requires typeinfos-from-requires size-hint-requires of-size-requires lay-behind-requires same-length returns)

@@ -1,6 +1,4 @@
-use Rattle.replies.specs.Call.{bits32}
 use Rattle.replies.specs.CallLaws.{library-is, number-is, replied}
-use mathlib.Core.Path.{ap}
 use borrow.Author.Needs.{needs}
 use Rattle.msft_typelib.proofs.typeinfos.msft_typeinfo_offset.Statement.{statement}
 use Rattle.msft_typelib.proofs.typeinfos.msft_typeinfo_offset.Tie as tie
@@ -10,4 +8,4 @@ msft-typeinfo-offset-spec =
     tie.close
     (tie.spec
     (λ c κs. search needs) (λ c κs. search needs) (λ c κs. search needs) (λ c κs. search needs)
-    (λ c. rw (library-is (c .before .before .before .before .before .before .args .s .now) (c .before .before .before .before .parse .result) (c .before .before .before .before .parse .ensures), number-is (c .before .before .before .before .before .before .args .s .now) (c .before .before .before .before .parse .result) (c .before .before .before .before .parse .ensures)) (replied _ (c .behind .ensures) (c .before .of-offset .ensures) (ap bits32 (c .before .before .typeinfo-offset .ensures)))))
+    (λ c. rw (library-is (c .before .before .before .before .before .before .args .s .now) (c .before .before .before .before .parse .result) (c .before .before .before .before .parse .ensures), number-is (c .before .before .before .before .before .before .args .s .now) (c .before .before .before .before .parse .result) (c .before .before .before .before .parse .ensures)) (replied _ (c .behind .ensures) (c .before .of-offset .ensures) (c .before .before .typeinfo-offset .ensures))))
