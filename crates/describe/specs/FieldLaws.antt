@@ -8,7 +8,7 @@ use Prim.Native.String.{String}
 use native.Mathlib.Nat.{one-le-pow}
 use native.Mathlib.Omega.{arith}
 use lib.Dec.{leb, lit<}
-use lib.ListN.{length, getD}
+use lib.ListN.{length}
 use lib.Text.{eqt}
 use Rattle.util.specs.Read.{le, read, orZero, le-lt, cond-elim, read-some}
 use Rattle.records.specs.declared.answer.Place.{Place}

@@ -2,7 +2,7 @@
 -- Assumes nothing.
 use mathlib.Core.Option.{Option, some, none}
 use mathlib.Core.List.{List, [], _∷_}
-use Prim.Native.Nat.{ℕ, zero, suc, _+_, _<_}
+use Prim.Native.Nat.{ℕ, _+_, _<_}
 use Prim.Native.String.{String}
 use lib.ListN.{getD}
 use Rattle.util.specs.Read.{read, orZero}

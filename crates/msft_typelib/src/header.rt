@@ -225,8 +225,5 @@ pub extern "C" fn msft_typeinfo_count(s: &[u8]) -> i64
 {
     let p = TypeLib::parse(s);
     let lib = p.lib;
-    reply::behind(
-        p.number,
-        reply::of_u32(U32Answer::Value(lib.count())),
-    )
+    reply::behind(p.number, reply::of_u32(U32Answer::Value(lib.count())))
 }

@@ -11,7 +11,7 @@ use mir.Syntax.{w64}
 use mir.Val.{toZ, ofZ}
 use borrow.Author.Tests.{lt-ltb, le-ltb, leb-true}
 use Rattle.records.specs.Answer.{Answer, value, refused, map}
-use Rattle.texts.specs.Text.{fitted, fronted, Laid}
+use Rattle.texts.specs.Text.{fitted, Laid}
 use Rattle.replies.specs.Call.{reply, outcome, laid}
 use Rattle.replies.specs.CallLaws.{valued, declined}
 

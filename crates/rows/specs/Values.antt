@@ -4,7 +4,7 @@ use mathlib.Core.List.{List, [], _∷_, _++_}
 use Prim.Native.Nat.{ℕ}
 use mir.Syntax.{w32}
 use mir.Val.{ofZ}
-use Rattle.records.specs.Answer.{Answer, value, refused, map}
+use Rattle.records.specs.Answer.{Answer, value, refused}
 use Rattle.records.specs.Types.{vtOf}
 use Rattle.records.specs.declared.answer.Place.{Place}
 use Rattle.records.specs.declared.arraydesc.SafeArrayBound.{SafeArrayBound}

@@ -1,9 +1,8 @@
 -- A type's emissions, one behind the other, are those of its format. Assumes nothing.
 use Rattle.typelib.specs.Header.{typeCount}
 use mathlib.Core.Path.{_≡_, refl, sym, ap, _∙_}
-use mathlib.Core.List.{List, [], _∷_, _++_, append-assoc}
+use mathlib.Core.List.{List, append-assoc}
 use Prim.Native.Nat.{ℕ, _+_, _/_, _%_, _^_}
-use native.Mathlib.Omega.{arith}
 use Rattle.util.specs.Read.{read, orZero}
 use Rattle.records.specs.declared.answer.Place.{Place}
 use Rattle.records.specs.declared.typeinfo.TypeInfoEntry.{TypeInfoEntry}

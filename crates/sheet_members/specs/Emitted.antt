@@ -4,7 +4,6 @@ use mathlib.Core.List.{List}
 use Prim.Native.Nat.{ℕ, _≤_}
 use lib.IntN.{ℤ}
 use lib.ListN.{length}
-use Rattle.records.specs.declared.answer.Place.{Place}
 use Rattle.records.specs.declared.typeinfo.TypeInfoEntry.{TypeInfoEntry}
 use Rattle.records.specs.Answer.{Answer, value, map}
 use Rattle.member_records.specs.declared.func.FuncRecord.{FuncRecord}
@@ -15,8 +14,8 @@ use Rattle.cursors.specs.declared.iterators.FuncCursor.{FuncCursor}
 use Rattle.cursors.specs.declared.iterators.ParamCursor.{ParamCursor}
 use Rattle.cursors.specs.declared.iterators.VarCursor.{VarCursor}
 use Rattle.cursors.specs.Cursors.{funcStep, paramStep, varStep}
-use Rattle.description.specs.Format.{Format, encode, opt, list}
-use Rattle.description.specs.Description.{Bytes, Function, Parameter, Variable, isConstant}
+use Rattle.description.specs.Format.{encode, opt, list}
+use Rattle.description.specs.Description.{Bytes, isConstant}
 use Rattle.description.specs.Sheet.{edition-one, u16, constant, parameter, function, variable}
 use Rattle.describe.specs.Values.{all, numbered}
 use Rattle.describe.specs.Members.{yields, constantBy, parameterOf, parametersOf, functionOf, functionsOf, valueWith, variableOf, variablesOf}

@@ -4,7 +4,7 @@ use mathlib.Core.Path.{_≡_, refl, sym, ap, _∙_}
 use mathlib.Core.Bool.{Bool, true, false, cond}
 use mathlib.Core.Option.{Option, some, none}
 use mathlib.Core.List.{List, [], _∷_}
-use Prim.Native.Nat.{ℕ, zero, suc, _+_, _-_, _*_, _/_, _%_, _^_, _≤_, _<_}
+use Prim.Native.Nat.{ℕ, _+_, _-_, _*_, _/_, _%_, _^_, _≤_, _<_}
 use native.Mathlib.Omega.{arith}
 use lib.IntN.{ℤ}
 use lib.ListN.{length}
@@ -31,7 +31,7 @@ use Rattle.typelib.specs.declared.references.ResolvedAnswer.the-variants as res
 use Rattle.typelib.specs.declared.references.ResolvedHreftype.{ResolvedHreftype}
 use Rattle.typelib.specs.Names.{guidPlace, nameBytes}
 use Rattle.typelib.specs.References.{Resolved, dispatchBit, cleared, internalIndex, resolvedAt, hrefResolved}
-use Rattle.typelib.specs.ReferenceLaws.{index-there, index-beyond, cleared-set, cleared-clear, resolved-internal as in-this-file}
+use Rattle.typelib.specs.ReferenceLaws.{index-there, index-beyond, resolved-internal as in-this-file}
 use Rattle.typelib.specs.Tables.{lent, negative}
 use Rattle.typelib.specs.TableLaws.{lent-long, lent-fits}
 use Rattle.typelib.specs.References.{internal as here, external}

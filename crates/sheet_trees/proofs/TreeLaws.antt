@@ -5,7 +5,6 @@ use mathlib.Core.Bool.{Bool, true, false, cond}
 use mathlib.Core.Option.{Option, some, none}
 use mathlib.Core.List.{List, [], _∷_, _++_, append-nil}
 use Prim.Native.Nat.{ℕ, zero, suc, _+_, _-_, _≤_, _<_}
-use native.Mathlib.Nat.{add-zero}
 use native.Mathlib.Omega.{arith}
 use lib.Dec.{ltb}
 use lib.ListN.{length}
@@ -25,17 +24,17 @@ use Rattle.typelib.specs.Tables.{lent}
 use Rattle.typelib.specs.TableLaws.{lent-long, lent-fits}
 use Rattle.typelib.specs.Descriptors.{typeDescription}
 use Rattle.typelib.specs.DescriptorLaws.{field-base}
-use Rattle.description.specs.Format.{encode, leBytes, list, joined}
+use Rattle.description.specs.Format.{encode, leBytes, joined}
 use Rattle.description.specs.Description.{Bytes, Dimension, Tree}
-use Rattle.description.specs.Description.Tree.{nothing, base, pointer, safeArray, cArray, reference}
-use Rattle.description.specs.Sheet.{edition-one, u16, dimension, level, nested, tree}
+use Rattle.description.specs.Description.Tree.{nothing, base, pointer, safeArray, cArray}
+use Rattle.description.specs.Sheet.{edition-one, dimension, level, nested, tree}
 use Rattle.description.specs.Sheet.{reference as referred}
 use Rattle.describe.specs.Values.{fieldOf}
 use Rattle.describe.specs.References.{referenceOf}
 use Rattle.describe.specs.Trees.{dimensionsAt, dimensionsOf, treeFrom, nestedOf, treeOf}
 use Rattle.emit.specs.Emit.{Put}
 use Rattle.emit.specs.Emit.{_▸_, Emitted}
-use Rattle.emit.specs.Laws.{join, skip, known}
+use Rattle.emit.specs.Laws.{join, skip}
 use Rattle.sheet_trees.specs.declared.trees.Inner.{Inner}
 use Rattle.sheet_trees.specs.declared.trees.Inner.the-variants as inner
 use Rattle.sheet_trees.specs.Parts.{dimensionsBytes, arrayBytes, arrayOf, headBytes, baseBytes, inlineBytes, innerOf, toldInner, Levelled}

@@ -9,7 +9,7 @@ use Rattle.records.specs.declared.answer.Place.{Place}
 use Rattle.records.specs.Answer.{Answer, map, bind}
 use Rattle.records.specs.Counted.{textOf}
 use Rattle.records.specs.Record.{recordPlace, signed32}
-use Rattle.records.specs.Layout.{Layout, _of_, sizeOf, offsetOf, widthOf, guid}
+use Rattle.records.specs.Layout.{Layout, _of_, sizeOf, offsetOf, guid}
 use Rattle.typelib.specs.declared.TypeLib.{TypeLib}
 use Rattle.typelib.specs.Header.{headerField}
 use Rattle.typelib.specs.Tables.{lent, segmentOf, tablePlace}

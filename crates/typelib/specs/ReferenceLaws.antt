@@ -1,15 +1,12 @@
 -- Laws of `References`, a case each. Assumes nothing.
-use mathlib.Core.Path.{_≡_, sym, _∙_, ap}
-use mathlib.Core.Bool.{cond}
+use mathlib.Core.Path.{_≡_, sym, _∙_}
 use mathlib.Core.List.{List}
 use Prim.Native.Nat.{ℕ, _-_, _/_, _%_, _^_, _≤_, _<_}
 use native.Mathlib.Omega.{arith}
-use lib.Dec.{leb, ltb, eqb}
 use borrow.Author.Tests.{le-leb, lt-leb, le-ltb, lt-ltb, eq-eqb, ne-eqb}
 use Rattle.records.specs.Answer.{Answer, value, refused, map}
 use Rattle.typelib.specs.declared.TypeLib.{TypeLib}
 use Rattle.typelib.specs.Header.{typeCount}
-use Rattle.typelib.specs.Tables.{lent}
 use Rattle.typelib.specs.References.{internalIndex, hrefIndex, Resolved, internal, dispatchBit, cleared, importAt, resolvedAt}
 
 module _ (count h : ℕ) where

@@ -6,7 +6,7 @@ use Prim.Native.Nat.{ℕ, _+_}
 use lib.Dec.{leb, ltb, eqb}
 use lib.ListN.{length}
 use Rattle.records.specs.declared.answer.Place.{Place}
-use Rattle.records.specs.Answer.{Answer, value, refused, map, bind}
+use Rattle.records.specs.Answer.{Answer, value, refused, bind}
 use Rattle.records.specs.Record.{limit}
 use Rattle.typelib.specs.declared.TypeLib.{TypeLib}
 use Rattle.typelib.specs.Header.{segmentOffset, segmentLength}

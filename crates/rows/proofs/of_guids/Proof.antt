@@ -5,22 +5,16 @@ use Rattle.rows.specs.Values.{guidNumbers, cursor}
 use borrow.Author.Needs.{needs}
 use Rattle.rows.proofs.of_guids.Statement.{statement}
 use Rattle.rows.proofs.of_guids.Tie as tie
-use Rattle.rows.proofs.of_guids.Reads as reads
-use Rattle.rows.proofs.of_guids.Lts as lts
 
--- src/lib.rt:252:28
 enum-known-a : tie.Need-enum-known-a
 enum-known-a c = search needs
 
--- src/lib.rt:253:30
 enum-known-a-2 : tie.Need-enum-known-a-2
 enum-known-a-2 c = search needs
 
--- src/lib.rt:248:1
 returns : tie.Need-returns
 returns c = shown (λ a. map (cursor guidNumbers) (toldGuids a)) (c .before .a .given .1)
 
--- src/lib.rt:248:1
 returns-2 : tie.Need-returns-2
 returns-2 c = shown (λ a. map (cursor guidNumbers) (toldGuids a)) (c .before .a2 .given .1)
 

@@ -5,22 +5,16 @@ use Rattle.rows.specs.Values.{impFileNumbers, cursor}
 use borrow.Author.Needs.{needs}
 use Rattle.rows.proofs.of_imp_files.Statement.{statement}
 use Rattle.rows.proofs.of_imp_files.Tie as tie
-use Rattle.rows.proofs.of_imp_files.Reads as reads
-use Rattle.rows.proofs.of_imp_files.Lts as lts
 
--- src/lib.rt:270:31
 enum-known-a : tie.Need-enum-known-a
 enum-known-a c = search needs
 
--- src/lib.rt:271:33
 enum-known-a-2 : tie.Need-enum-known-a-2
 enum-known-a-2 c = search needs
 
--- src/lib.rt:266:1
 returns : tie.Need-returns
 returns c = shown (λ a. map (cursor impFileNumbers) (toldImpFiles a)) (c .before .a .given .1)
 
--- src/lib.rt:266:1
 returns-2 : tie.Need-returns-2
 returns-2 c = shown (λ a. map (cursor impFileNumbers) (toldImpFiles a)) (c .before .a2 .given .1)
 

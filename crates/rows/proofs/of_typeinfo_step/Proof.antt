@@ -4,22 +4,16 @@ use Rattle.rows.specs.Values.{typeinfoNumbers, step}
 use borrow.Author.Needs.{needs}
 use Rattle.rows.proofs.of_typeinfo_step.Statement.{statement}
 use Rattle.rows.proofs.of_typeinfo_step.Tie as tie
-use Rattle.rows.proofs.of_typeinfo_step.Reads as reads
-use Rattle.rows.proofs.of_typeinfo_step.Lts as lts
 
--- src/lib.rt:387:30
 enum-known-a : tie.Need-enum-known-a
 enum-known-a c = search needs
 
--- src/lib.rt:391:31
 enum-known-a-2 : tie.Need-enum-known-a-2
 enum-known-a-2 c = search needs
 
--- src/lib.rt:383:1
 returns : tie.Need-returns
 returns c = shown (λ a. step typeinfoNumbers (toldTypeInfoStep a)) (c .before .before .a .given .1)
 
--- src/lib.rt:383:1
 returns-2 : tie.Need-returns-2
 returns-2 c = shown (λ a. step typeinfoNumbers (toldTypeInfoStep a)) (c .before .a2 .given .1)
 

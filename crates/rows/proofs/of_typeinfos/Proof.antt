@@ -5,22 +5,16 @@ use Rattle.rows.specs.Values.{typeinfoNumbers, cursor}
 use borrow.Author.Needs.{needs}
 use Rattle.rows.proofs.of_typeinfos.Statement.{statement}
 use Rattle.rows.proofs.of_typeinfos.Tie as tie
-use Rattle.rows.proofs.of_typeinfos.Reads as reads
-use Rattle.rows.proofs.of_typeinfos.Lts as lts
 
--- src/lib.rt:288:32
 enum-known-a : tie.Need-enum-known-a
 enum-known-a c = search needs
 
--- src/lib.rt:292:34
 enum-known-a-2 : tie.Need-enum-known-a-2
 enum-known-a-2 c = search needs
 
--- src/lib.rt:284:1
 returns : tie.Need-returns
 returns c = shown (λ a. map (cursor typeinfoNumbers) (toldTypeInfos a)) (c .before .before .a .given .1)
 
--- src/lib.rt:284:1
 returns-2 : tie.Need-returns-2
 returns-2 c = shown (λ a. map (cursor typeinfoNumbers) (toldTypeInfos a)) (c .before .a2 .given .1)
 

@@ -1,7 +1,7 @@
 use Rattle.sheet_trees.specs.Emitted.{referenceEmitted}
 use Rattle.typelib.specs.Header.{library}
 use Rattle.sheet_trees.proofs.PartLaws.{here-referred}
-use mathlib.Core.Path.{_≡_, refl, _∙_}
+use mathlib.Core.Path.{_∙_}
 use mathlib.Core.Logic.{⊎-elim}
 use native.Mathlib.Omega.{arith}
 use Rattle.emit.specs.Emit.{Emitted, put}

@@ -3,7 +3,7 @@ use mathlib.Core.List.{List}
 use Prim.Native.Nat.{ℕ, _≤_, _-_, _+_, _*_, _/_, _%_}
 use native.Mathlib.Nat.{add-zero}
 use native.Mathlib.Omega.{arith}
-use lib.ListN.{length, set, replicate}
+use lib.ListN.{set, replicate}
 use borrow.Author.Needs.{needs}
 use Rattle.util.specs.Read.{le}
 use Rattle.typelib.specs.Tabulate.{tabulate, filled, filled-turn, set-two, length-tabulate}
@@ -11,9 +11,6 @@ use Rattle.typelib.specs.Header.{pairAt}
 use Rattle.typelib.specs.HeaderLaws.{word-in-part}
 use Rattle.typelib.proofs.numbers_at.Statement.{statement}
 use Rattle.typelib.proofs.numbers_at.Tie as tie
-use Rattle.typelib.proofs.numbers_at.Reads as reads
-use Rattle.typelib.proofs.numbers_at.Lts as lts
-use Rattle.util.proofs.u32_or_zero.Reads as u32-or-zero-reads
 
 abbrev Inv-loop : tie.InvT-loop
 Inv-loop s at count table numbers₀ i₀ numbers i = (i ≤ 30) × (numbers₀ ≡ replicate 32 0) × (numbers ≡ filled (pairAt s at) i numbers₀)
@@ -21,64 +18,49 @@ Inv-loop s at count table numbers₀ i₀ numbers i = (i ≤ 30) × (numbers₀ 
 abbrev μ-loop : tie.MeasureT-loop
 μ-loop s at count table numbers₀ i₀ numbers i = 30 - i
 
--- src/lib.rt:66:5
 loop-holds : tie.Need-loop-holds Inv-loop μ-loop
 unfolding tabulate
 loop-holds c = search needs
 
--- src/lib.rt:67:25
 mul-from : tie.Need-mul-from Inv-loop μ-loop
 mul-from c = search needs
 
--- src/lib.rt:67:20
 add-from : tie.Need-add-from Inv-loop μ-loop
 add-from c = search needs
 
--- src/lib.rt:67:40
 mul-from-2 : tie.Need-mul-from-2 Inv-loop μ-loop
 mul-from-2 c = search needs
 
--- src/lib.rt:67:20
 add-from-2 : tie.Need-add-from-2 Inv-loop μ-loop
 add-from-2 c = search needs
 
--- src/lib.rt:68:29
 add-word : tie.Need-add-word Inv-loop μ-loop
 add-word c = search needs
 
--- src/lib.rt:68:20
 sub-word : tie.Need-sub-word Inv-loop μ-loop
 sub-word c = search needs
 
--- src/lib.rt:68:20
 part-word-start : tie.Need-part-word-start Inv-loop μ-loop
 part-word-start c = search needs
 
--- src/lib.rt:68:20
 part-word-end : tie.Need-part-word-end Inv-loop μ-loop
 part-word-end c = search needs
 
--- src/lib.rt:69:22
 u32-or-zero-requires : tie.Need-u32-or-zero-requires Inv-loop μ-loop
 u32-or-zero-requires c κs = search needs
 
--- src/lib.rt:69:9
 mul-numbers : tie.Need-mul-numbers Inv-loop μ-loop
 mul-numbers c = search needs
 
--- src/lib.rt:69:9
 array-write-numbers : tie.Need-array-write-numbers Inv-loop μ-loop
 array-write-numbers c = search needs
 
--- src/lib.rt:70:9
 add-i : tie.Need-add-i Inv-loop μ-loop
 add-i c = search needs
 
--- src/lib.rt:66:5
 loop-less : tie.Need-loop-less Inv-loop μ-loop
 loop-less c = search needs
 
--- src/lib.rt:66:5
 loop-again : tie.Need-loop-again Inv-loop μ-loop
 loop-again c =
     let s = c .before .before .before .before .before .args .s .now in
@@ -88,15 +70,12 @@ loop-again c =
     let e = word-in-part s from (from + 4 - from) 0 _ (omega arith) (omega arith) (c .u32-or-zero .ensures) in
     (search needs, search needs, filled-turn (pairAt s at) i _ _ _ (omega arith) (c .before .before .before .loop .inv .2) (e ∙ ap (le 4 s) (add-zero from)))
 
--- src/lib.rt:72:5
 array-write-numbers-2 : tie.Need-array-write-numbers-2 Inv-loop μ-loop
 array-write-numbers-2 c = search needs
 
--- src/lib.rt:73:5
 array-write-numbers-3 : tie.Need-array-write-numbers-3 Inv-loop μ-loop
 array-write-numbers-3 c = search needs
 
--- src/lib.rt:60:1
 returns : tie.Need-returns Inv-loop μ-loop
 returns c =
     let f = pairAt (c .before .before .before .args .s .now) (c .before .before .before .args .at) in

@@ -1,4 +1,3 @@
-use Rattle.texts.specs.Guid.{guidText}
 use Rattle.replies.specs.Written.{written}
 use native.Mathlib.Omega.{arith}
 use borrow.Author.Needs.{needs}

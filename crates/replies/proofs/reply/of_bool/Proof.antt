@@ -1,7 +1,7 @@
 use Rattle.replies.specs.CallLaws.{valued, declined}
 use Rattle.replies.specs.Call.{truth}
 use Rattle.records.specs.Told.{toldBool}
-use Rattle.records.specs.Answer.{Answer, value}
+use Rattle.records.specs.Answer.{value}
 use native.Mathlib.Omega.{arith}
 use mathlib.Core.Path.{refl, ap}
 use borrow.Author.Needs.{needs}

@@ -3,7 +3,7 @@ use Rattle.rows.specs.ValueLaws.{back}
 use Rattle.replies.specs.Call.{bits16}
 use mir.Syntax.{w16}
 use Rattle.records.specs.Told.{toldI16}
-use Rattle.records.specs.Answer.{Answer, value}
+use Rattle.records.specs.Answer.{value}
 use native.Mathlib.Omega.{arith}
 use mathlib.Core.Path.{refl, ap}
 use borrow.Author.Needs.{needs}

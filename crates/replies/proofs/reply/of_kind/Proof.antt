@@ -1,7 +1,7 @@
 use Rattle.replies.specs.CallLaws.{valued, declined}
 use Rattle.replies.specs.Call.{kindNumber}
 use Rattle.records.specs.Told.{toldKind}
-use Rattle.records.specs.Answer.{Answer, value, map}
+use Rattle.records.specs.Answer.{value, map}
 use native.Mathlib.Omega.{arith}
 use mathlib.Core.Path.{refl, ap}
 use borrow.Author.Needs.{needs}

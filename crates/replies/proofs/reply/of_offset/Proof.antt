@@ -5,31 +5,22 @@ use Rattle.replies.specs.CallLaws.{valued, declined}
 use borrow.Author.Needs.{needs}
 use Rattle.replies.proofs.reply.of_offset.Statement.{statement}
 use Rattle.replies.proofs.reply.of_offset.Tie as tie
-use Rattle.replies.proofs.reply.of_offset.Reads as reads
-use Rattle.replies.proofs.reply.of_offset.Lts as lts
-use Rattle.replies.proofs.reply.minus.Reads as minus-reads
 
--- src/reply.rt:112:29
 enum-known-a : tie.Need-enum-known-a
 enum-known-a c = search needs
 
--- src/reply.rt:112:35
 cast-result : tie.Need-cast-result
 cast-result c = search needs
 
--- src/reply.rt:113:31
 enum-known-a-2 : tie.Need-enum-known-a-2
 enum-known-a-2 c = search needs
 
--- src/reply.rt:113:37
 minus-requires : tie.Need-minus-requires
 minus-requires c κs = search needs
 
--- src/reply.rt:108:1
 returns : tie.Need-returns
 returns c = valued toldOffset (omega arith) (c .before .before .a .given .1) refl
 
--- src/reply.rt:108:1
 returns-2 : tie.Need-returns-2
 returns-2 c = declined toldOffset (omega arith) (c .before .before .a2 .given .1) refl (c .minus .ensures)
 

@@ -5,50 +5,37 @@ use native.Mathlib.Omega.{arith}
 use borrow.Author.Needs.{needs}
 use Rattle.sheet_trees.proofs.names.names_of.Statement.{statement}
 use Rattle.sheet_trees.proofs.names.names_of.Tie as tie
-use Rattle.sheet_trees.proofs.names.names_of.Reads as reads
-use Rattle.sheet_trees.proofs.names.names_of.Lts as lts
-use Rattle.typelib.proofs.tables.segment.Reads as segment-reads
 
--- src/names.rt:31:48
 segment-requires : tie.Need-segment-requires
 segment-requires c κs = search needs
 
--- src/names.rt:31:39
 enum-known-table : tie.Need-enum-known-table
 enum-known-table c = search needs
 
--- src/names.rt:34:29
 cast-t10 : tie.Need-cast-t10
 cast-t10 c = search needs
 
--- src/names.rt:35:32
 sub-t12 : tie.Need-sub-t12
 sub-t12 c = search needs
 
--- src/names.rt:35:31
 cast-t13 : tie.Need-cast-t13
 cast-t13 c = search needs
 
--- src/names.rt:33:21
 returns : tie.Need-returns
 returns c = near-table _ _ _ _ (c .before .before .before .before .before .before .before .before .if2 .taken) (tells toldPlace (c .before .before .before .before .before .table .given .1) (c .before .before .before .before .before .before .before .segment .ensures)) (omega (arith, c .before .before .before .before .before .before .before .before .before .if1 .taken, c .before .before .if3 .taken))
 
 enum-told : tie.Need-enum-told
 enum-told c = search needs
 
--- src/names.rt:25:1
 returns-2 : tie.Need-returns-2
 returns-2 c = near-none _ _ _
 
--- src/names.rt:25:1
 returns-3 : tie.Need-returns-3
 returns-3 c = near-none _ _ _
 
--- src/names.rt:25:1
 returns-4 : tie.Need-returns-4
 returns-4 c = near-none _ _ _
 
--- src/names.rt:25:1
 returns-5 : tie.Need-returns-5
 returns-5 c = near-none _ _ _
 

@@ -8,80 +8,55 @@ use Rattle.sheet_trees.proofs.PartLaws.{here-long, here-negative, here-
 use borrow.Author.Needs.{needs}
 use Rattle.sheet_trees.proofs.references.put_in_this_file.Statement.{statement}
 use Rattle.sheet_trees.proofs.references.put_in_this_file.Tie as tie
-use Rattle.sheet_trees.proofs.references.put_in_this_file.Reads as reads
-use Rattle.sheet_trees.proofs.references.put_in_this_file.Lts as lts
-use Rattle.emit.proofs.put_u8.Reads as put-u8-reads
-use Rattle.sheet_trees.proofs.references.put_internal.Reads as put-internal-reads
-use Rattle.typelib.proofs.references.index_of.Reads as index-of-reads
-use Rattle.typelib.proofs.references.without_dispatch.Reads as without-dispatch-reads
-use Rattle.typelib.proofs.tables.count.Reads as count-reads
-use Rattle.util.proofs.bits.Reads as bits-reads
 
--- src/references.rt:39:9
 put-u8-requires : tie.Need-put-u8-requires
 put-u8-requires c κs = search needs
 
--- src/references.rt:39:9
 same-length : tie.Need-same-length
 same-length c = search needs
 
--- src/references.rt:39:9
 returns : tie.Need-returns
 returns c = known (here-long _ _ _ (c .before .before .before .before .if1 .taken)) (c .before .before .put-u8 .ensures)
 
--- src/references.rt:42:9
 put-u8-requires-2 : tie.Need-put-u8-requires-2
 put-u8-requires-2 c κs = search needs
 
--- src/references.rt:42:9
 same-length-2 : tie.Need-same-length-2
 same-length-2 c = search needs
 
--- src/references.rt:42:9
 returns-2 : tie.Need-returns-2
 returns-2 c = known (here-negative _ _ _ (c .before .before .before .before .before .if1 .left) (c .before .before .before .before .if2 .taken)) (c .before .before .put-u82 .ensures)
 
--- src/references.rt:44:9
 bits-requires : tie.Need-bits-requires
 bits-requires c κs = search needs
 
--- src/references.rt:45:33
 without-dispatch-requires : tie.Need-without-dispatch-requires
 without-dispatch-requires c κs = search needs
 
--- src/references.rt:46:9
 index-of-requires : tie.Need-index-of-requires
 index-of-requires c κs = search needs
 
--- src/references.rt:47:18
 count-requires : tie.Need-count-requires
 count-requires c κs = search needs
 
--- src/references.rt:47:18
 cast-if3 : tie.Need-cast-if3
 cast-if3 c = search needs
 
--- src/references.rt:48:9
 put-internal-requires : tie.Need-put-internal-requires
 put-internal-requires c κs = search needs
 
--- src/references.rt:50:9
 put-u8-requires-3 : tie.Need-put-u8-requires-3
 put-u8-requires-3 c κs = search needs
 
--- src/references.rt:35:1
 same-length-3 : tie.Need-same-length-3
 same-length-3 c = search needs
 
--- src/references.rt:35:1
 returns-3 : tie.Need-returns-3
 returns-3 c = known (ap (λ (i : ℕ). value (internalBytes (c .before .before .before .before .before .before .before .before .before .bits .result) i)) (c .before .before .before .before .before .before .before .index-of .ensures) ∙ here-index _ _ _ _ _ (c .before .before .before .before .before .before .before .before .before .bits .ensures) (c .before .before .before .before .before .before .before .before .without-dispatch .ensures) (c .before .before .before .before .before .before .before .before .before .before .before .if1 .left) (omega (arith, c .before .before .before .before .before .before .before .before .before .before .if2 .left)) (omega (arith, c .before .before .before .before .before .before .before .index-of .ensures, c .before .before .before .before .before .before .count .ensures))) (c .before .before .put-internal .ensures)
 
--- src/references.rt:35:1
 same-length-4 : tie.Need-same-length-4
 same-length-4 c = search needs
 
--- src/references.rt:35:1
 returns-4 : tie.Need-returns-4
 returns-4 c = known (here-beyond _ _ _ _ _ (c .before .before .before .before .before .before .before .before .before .bits .ensures) (c .before .before .before .before .before .before .before .before .without-dispatch .ensures) (c .before .before .before .before .before .before .before .before .before .before .before .if1 .left) (omega (arith, c .before .before .before .before .before .before .before .before .before .before .if2 .left)) (omega (arith, c .before .before .before .before .before .before .before .index-of .ensures, c .before .before .before .before .before .before .count .ensures))) (c .before .before .put-u83 .ensures)
 

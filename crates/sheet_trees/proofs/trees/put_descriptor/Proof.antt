@@ -3,7 +3,7 @@ use Rattle.sheet_trees.proofs.TreeLaws.{level-as, level-base, level-poi
 use Rattle.typelib.specs.DescriptorLaws.{description-base, description-case}
 use Rattle.typelib.specs.Descriptors.{descriptionOf, arrayDescAt}
 use Rattle.sheet_trees.specs.Parts.{arrayOf}
-use mathlib.Core.Path.{_≡_, refl, ap, _∙_, sym}
+use mathlib.Core.Path.{refl, ap, _∙_, sym}
 use borrow.Author.Needs.{needs}
 use Rattle.sheet_trees.proofs.trees.put_descriptor.Statement.{statement}
 use Rattle.sheet_trees.proofs.trees.put_descriptor.Tie as tie

@@ -1,5 +1,5 @@
 use Rattle.typelib.specs.Header.{library}
-use mathlib.Core.Path.{_≡_, refl}
+use mathlib.Core.Path.{refl}
 use Rattle.sheet_trees.proofs.PartLaws.{here-referred}
 use native.Mathlib.Omega.{arith}
 use Rattle.emit.specs.Laws.{known, join}

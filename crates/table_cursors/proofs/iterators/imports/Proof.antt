@@ -1,26 +1,19 @@
 use Rattle.typelib.specs.TableLaws.{lent-long, lent-fits}
 use Rattle.records.specs.Answer.{value}
-use mathlib.Core.Path.{_≡_, ap}
+use mathlib.Core.Path.{ap}
 use borrow.Author.Needs.{needs}
 use Rattle.table_cursors.proofs.iterators.imports.Statement.{statement}
 use Rattle.table_cursors.proofs.iterators.imports.Tie as tie
-use Rattle.table_cursors.proofs.iterators.imports.Reads as reads
-use Rattle.table_cursors.proofs.iterators.imports.Lts as lts
-use Rattle.typelib.proofs.tables.table.Reads as table-reads
 
--- src/iterators.rt:142:9
 returns : tie.Need-returns
 returns c = lent-long _ _ (c .if1 .taken)
 
--- src/iterators.rt:144:9
 table-requires : tie.Need-table-requires
 table-requires c κs = search needs
 
--- src/iterators.rt:147:14
 add-t5 : tie.Need-add-t5
 add-t5 c = search needs
 
--- src/iterators.rt:138:1
 returns-2 : tie.Need-returns-2
 returns-2 c = lent-fits _ _ _ (c .before .before .before .before .if1 .left) (ap value (let e = c .before .table .ensures .0 in cc (e)))
 

@@ -1,8 +1,7 @@
 use Rattle.table_cursors.specs.MemberLaws.{behind-here, behind-next, behind-over}
-use Rattle.table_cursors.specs.Members.{behind, matching}
+use Rattle.table_cursors.specs.Members.{behind}
 use Rattle.table_cursors.specs.Told.{toldNameStep}
 use Prim.Native.Nat.{ℕ, _-_}
-use lib.ListN.{length}
 use native.Mathlib.Omega.{arith}
 use mathlib.Core.Path.{_≡_, refl, sym, _∙_, ap}
 use borrow.Author.Needs.{needs}

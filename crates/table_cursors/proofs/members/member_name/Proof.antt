@@ -10,62 +10,43 @@ use Rattle.table_cursors.specs.MemberLaws.{behind-first, behind-over}
 use borrow.Author.Needs.{needs}
 use Rattle.table_cursors.proofs.members.member_name.Statement.{statement}
 use Rattle.table_cursors.proofs.members.member_name.Tie as tie
-use Rattle.table_cursors.proofs.members.member_name.Reads as reads
-use Rattle.table_cursors.proofs.members.member_name.Lts as lts
-use Rattle.table_cursors.proofs.iterators.names_in.Reads as names-in-reads
-use Rattle.table_cursors.proofs.members.match_behind.Reads as match-behind-reads
-use Rattle.table_cursors.proofs.members.next_match.Reads as next-match-reads
-use Rattle.typelib.proofs.tables.offset_word.Reads as offset-word-reads
 
--- src/members.rt:25:9
 returns : tie.Need-returns
 returns c = lent-long _ _ (c .if1 .taken)
 
--- src/members.rt:27:11
 offset-word-requires : tie.Need-offset-word-requires
 offset-word-requires c κs = search needs
 
--- src/members.rt:28:29
 enum-known-own : tie.Need-enum-known-own
 enum-known-own c = search needs
 
--- src/members.rt:28:62
 names-in-requires : tie.Need-names-in-requires
 names-in-requires c κs = search needs
 
--- src/members.rt:28:43
 next-match-requires : tie.Need-next-match-requires
 next-match-requires c κs = search needs
 
--- src/members.rt:29:33
 enum-known-c : tie.Need-enum-known-c
 enum-known-c c = search needs
 
--- src/members.rt:29:63
 next-match-requires-2 : tie.Need-next-match-requires-2
 next-match-requires-2 c κs = search needs
 
--- src/members.rt:29:39
 match-behind-requires : tie.Need-match-behind-requires
 match-behind-requires c κs = search needs
 
--- src/members.rt:30:31
 enum-known-n : tie.Need-enum-known-n
 enum-known-n c = search needs
 
--- src/members.rt:32:31
 enum-known-n-2 : tie.Need-enum-known-n-2
 enum-known-n-2 c = search needs
 
--- src/members.rt:21:1
 returns-2 : tie.Need-returns-2
 returns-2 c = let s = c .before .before .before .before .before .before .before .before .before .before .before .before .before .before .before .before .before .args .s .now in let own = c .before .before .before .before .before .before .before .before .before .before .own .given .0 .0 .0 in lent-fits _ _ _ (c .before .before .before .before .before .before .before .before .before .before .before .before .before .before .before .if1 .left) (bind-value _ _ _ _ (tells toldOffset (c .before .before .before .before .before .before .before .before .before .before .own .given .1) (c .before .before .before .before .before .before .before .before .before .before .before .before .offset-word .ensures)) (behind-first (c .before .before .before .before .before .before .before .before .before .before .before .before .before .before .before .before .before .args .k) s own _ _ _ _ (tells toldNameStep (c .before .before .before .c .given .1) (c .before .before .before .before .before .next-match .ensures ∙ ap (λ (x : NameCursor). matching (length s) s own x) (c .before .before .before .before .before .before .names-in .ensures))) (c .match-behind .ensures ∙ ap (behind (c .before .before .before .before .before .before .before .before .before .before .before .before .before .before .before .before .before .args .k) s own) (c .before .next-match2 .ensures))))
 
--- src/members.rt:21:1
 returns-3 : tie.Need-returns-3
 returns-3 c = let s = c .before .before .before .before .before .before .before .before .before .before .before .before .before .before .before .args .s .now in let own = c .before .before .before .before .before .before .before .before .own .given .0 .0 .0 in lent-fits _ _ _ (c .before .before .before .before .before .before .before .before .before .before .before .before .before .if1 .left) (bind-value _ _ _ _ (tells toldOffset (c .before .before .before .before .before .before .before .before .own .given .1) (c .before .before .before .before .before .before .before .before .before .before .offset-word .ensures)) (behind-over _ s own _ _ _ (tells toldNameStep (c .before .n .given .1) (c .before .before .before .next-match .ensures ∙ ap (λ (x : NameCursor). matching (length s) s own x) (c .before .before .before .before .names-in .ensures)))))
 
--- src/members.rt:21:1
 returns-4 : tie.Need-returns-4
 returns-4 c = lent-fits _ _ _ (c .before .before .before .before .before .before .if1 .left) (bind-refused _ _ _ (tells toldOffset (c .before .n2 .given .1) (c .before .before .before .offset-word .ensures)))
 

@@ -4,20 +4,13 @@ use Rattle.typelib.specs.References.{hrefResolved}
 use borrow.Author.Needs.{needs}
 use Rattle.typelib.proofs.TypeLib.resolve_hreftype_full.Statement.{statement}
 use Rattle.typelib.proofs.TypeLib.resolve_hreftype_full.Tie as tie
-use Rattle.typelib.proofs.TypeLib.resolve_hreftype_full.Reads as reads
-use Rattle.typelib.proofs.TypeLib.resolve_hreftype_full.Lts as lts
-use Rattle.typelib.proofs.references.resolve_at.Reads as resolve-at-reads
-use Rattle.util.proofs.unsigned32.Reads as unsigned32-reads
 
--- src/references.rt:74:38
 unsigned32-requires : tie.Need-unsigned32-requires
 unsigned32-requires c κs = search needs
 
--- src/references.rt:74:9
 resolve-at-requires : tie.Need-resolve-at-requires
 resolve-at-requires c κs = search needs
 
--- src/references.rt:71:5
 returns : tie.Need-returns
 returns c = c .resolve-at .ensures ∙ ap (hrefResolved (c .before .before .before .before .before .args .s .now) (c .before .before .before .before .before .args .t1)) (pattern (c .before .before .before .before .before .args .hreftype) _ (c .before .before .before .before .before .fits .hreftype) (c .before .unsigned32 .ensures))
 

@@ -1,14 +1,13 @@
 use Rattle.typelib.specs.Header.{library}
-use Rattle.records.specs.declared.types.TypeDescription.the-variants.{Pointer, SafeArray, UserDefined, CArray}
+use Rattle.records.specs.declared.types.TypeDescription.the-variants.{Pointer, SafeArray, UserDefined}
 use Rattle.typelib.specs.Told.{toldArrayDesc}
 use Rattle.records.specs.AnswerLaws.{tells, map-value, map-refused}
 use Rattle.typelib.specs.DescriptorLaws.{description-base, description-case}
 use Rattle.typelib.specs.Descriptors.{descriptionOf, arrayDescAt}
-use Rattle.records.specs.declared.answer.Place.{Place}
-use Rattle.records.specs.Answer.{Answer, value, map}
+use Rattle.records.specs.Answer.{value}
 use mir.ValLaws.{toZ-ofZ}
 use mir.Syntax.{w32}
-use mathlib.Core.Path.{_∙_, ap, sym, refl}
+use mathlib.Core.Path.{_∙_, ap, refl}
 use borrow.Author.Needs.{needs}
 use Rattle.typelib.proofs.descriptors.description_of.Statement.{statement}
 use Rattle.typelib.proofs.descriptors.description_of.Tie as tie

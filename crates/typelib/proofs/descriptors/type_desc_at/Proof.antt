@@ -4,9 +4,8 @@ use Rattle.records.specs.Told.{toldPlace}
 use Rattle.records.specs.AnswerLaws.{tells, map-value, map-refused}
 use Rattle.util.specs.Read.{read-zero}
 use native.Mathlib.Omega.{arith}
-use Prim.Native.Nat.{ℕ, _+_}
+use Prim.Native.Nat.{_+_}
 use mathlib.Core.Bool.{false}
-use mathlib.Core.Path.{_≡_}
 use borrow.Author.Needs.{needs}
 use Rattle.typelib.proofs.descriptors.type_desc_at.Statement.{statement}
 use Rattle.typelib.proofs.descriptors.type_desc_at.Tie as tie

@@ -4,7 +4,6 @@ use Rattle.typelib.specs.Told.{toldPair}
 use Rattle.records.specs.AnswerLaws.{tells, bind-value, bind-refused}
 use Rattle.typelib.specs.DescriptorLaws.{field-base, field-entry}
 use Rattle.typelib.specs.Descriptors.{descriptionOf}
-use native.Mathlib.Omega.{arith}
 use Prim.Native.Nat.{ℕ}
 use mathlib.Core.Path.{_∙_, ap}
 use borrow.Author.Needs.{needs}

@@ -5,7 +5,6 @@ use Rattle.records.specs.AnswerLaws.{tells, bind-value, bind-refused}
 use Rattle.typelib.specs.Names.{stringBehind}
 use Rattle.util.specs.Read.{read-zero}
 use native.Mathlib.Omega.{arith}
-use Prim.Native.Nat.{_+_}
 use mathlib.Core.Bool.{false}
 use mathlib.Core.Path.{_∙_, ap}
 use borrow.Author.Needs.{needs}

@@ -5,7 +5,7 @@ use Rattle.records.specs.AnswerLaws.{tells, map-value, map-refused}
 use Rattle.typelib.specs.References.{external, impFileAt}
 use Rattle.util.specs.Read.{read-zero}
 use native.Mathlib.Omega.{arith}
-use Prim.Native.Nat.{ℕ, _+_}
+use Prim.Native.Nat.{_+_}
 use mathlib.Core.Bool.{true}
 use mathlib.Core.Path.{_∙_, ap}
 use borrow.Author.Needs.{needs}

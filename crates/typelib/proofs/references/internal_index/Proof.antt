@@ -5,28 +5,19 @@ use Rattle.typelib.specs.ReferenceLaws.{index-there, index-beyond}
 use borrow.Author.Needs.{needs}
 use Rattle.typelib.proofs.references.internal_index.Statement.{statement}
 use Rattle.typelib.proofs.references.internal_index.Tie as tie
-use Rattle.typelib.proofs.references.internal_index.Reads as reads
-use Rattle.typelib.proofs.references.internal_index.Lts as lts
-use Rattle.typelib.proofs.references.index_of.Reads as index-of-reads
-use Rattle.typelib.proofs.tables.count.Reads as count-reads
 
--- src/references.rt:108:9
 index-of-requires : tie.Need-index-of-requires
 index-of-requires c κs = search needs
 
--- src/references.rt:109:18
 count-requires : tie.Need-count-requires
 count-requires c κs = search needs
 
--- src/references.rt:109:18
 cast-if1 : tie.Need-cast-if1
 cast-if1 c = search needs
 
--- src/references.rt:110:9
 returns : tie.Need-returns
 returns c = ap value (c .before .before .before .index-of .ensures) ∙ index-there _ _ (omega (arith, c .before .before .before .index-of .ensures, c .before .before .count .ensures))
 
--- src/references.rt:105:1
 returns-2 : tie.Need-returns-2
 returns-2 c = index-beyond _ _ (omega (arith, c .before .before .before .index-of .ensures, c .before .before .count .ensures))
 

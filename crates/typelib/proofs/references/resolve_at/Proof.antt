@@ -7,28 +7,19 @@ use Rattle.typelib.specs.TableLaws.{lent-long, lent-fits}
 use borrow.Author.Needs.{needs}
 use Rattle.typelib.proofs.references.resolve_at.Statement.{statement}
 use Rattle.typelib.proofs.references.resolve_at.Tie as tie
-use Rattle.typelib.proofs.references.resolve_at.Reads as reads
-use Rattle.typelib.proofs.references.resolve_at.Lts as lts
-use Rattle.typelib.proofs.references.resolve_cleared.Reads as resolve-cleared-reads
-use Rattle.typelib.proofs.references.without_dispatch.Reads as without-dispatch-reads
 
--- src/references.rt:120:9
 returns : tie.Need-returns
 returns c = lent-long _ _ (c .if1 .taken)
 
--- src/references.rt:123:9
 returns-2 : tie.Need-returns-2
 returns-2 c = lent-fits _ _ _ (c .before .if1 .left) (when-true _ _ _ _ (le-leb _ _ (c .if2 .taken)) refl)
 
--- src/references.rt:125:29
 without-dispatch-requires : tie.Need-without-dispatch-requires
 without-dispatch-requires c κs = search needs
 
--- src/references.rt:125:5
 resolve-cleared-requires : tie.Need-resolve-cleared-requires
 resolve-cleared-requires c κs = search needs
 
--- src/references.rt:116:1
 returns-3 : tie.Need-returns-3
 returns-3 c = lent-fits _ _ _ (c .before .before .before .if1 .left) (when-false _ _ _ _ (lt-leb _ _ (c .before .before .if2 .left)) (c .resolve-cleared .ensures ∙ ap (resolvedAt (c .before .before .before .before .before .args .s .now) (library (c .before .before .before .before .before .args .lib .now))) (c .before .without-dispatch .ensures)))
 

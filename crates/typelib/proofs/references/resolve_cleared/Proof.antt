@@ -1,5 +1,5 @@
 use mathlib.Core.Path.{_∙_, ap, sym, refl}
-use Prim.Native.Nat.{ℕ, _-_, _%_}
+use Prim.Native.Nat.{ℕ, _-_}
 use Rattle.typelib.specs.References.{importAt, internal}
 use Rattle.typelib.specs.Header.{library}
 use Rattle.records.specs.AnswerLaws.{tells, map-value, map-refused}
@@ -8,45 +8,31 @@ use Rattle.typelib.specs.ReferenceLaws.{low-bits, resolved-internal, res
 use borrow.Author.Needs.{needs}
 use Rattle.typelib.proofs.references.resolve_cleared.Statement.{statement}
 use Rattle.typelib.proofs.references.resolve_cleared.Tie as tie
-use Rattle.typelib.proofs.references.resolve_cleared.Reads as reads
-use Rattle.typelib.proofs.references.resolve_cleared.Lts as lts
-use Rattle.typelib.proofs.references.import_at.Reads as import-at-reads
-use Rattle.typelib.proofs.references.internal_index.Reads as internal-index-reads
-use Rattle.util.proofs.bits.Reads as bits-reads
 
--- src/references.rt:132:9
 bits-requires : tie.Need-bits-requires
 bits-requires c κs = search needs
 
--- src/references.rt:134:22
 internal-index-requires : tie.Need-internal-index-requires
 internal-index-requires c κs = search needs
 
--- src/references.rt:135:32
 enum-known-index : tie.Need-enum-known-index
 enum-known-index c = search needs
 
--- src/references.rt:136:34
 enum-known-n : tie.Need-enum-known-n
 enum-known-n c = search needs
 
--- src/references.rt:134:9
 returns : tie.Need-returns
 returns c = resolved-internal _ _ _ _ (sym (low-bits _ _ (c .before .before .before .before .before .bits .ensures)) ∙ c .before .before .before .before .if1 .taken) (map-value internal _ _ _ (tells toldIndex (c .before .index .given .1) (c .before .before .before .internal-index .ensures)) refl)
 
--- src/references.rt:134:9
 returns-2 : tie.Need-returns-2
 returns-2 c = resolved-internal _ _ _ _ (sym (low-bits _ _ (c .before .before .before .before .before .bits .ensures)) ∙ c .before .before .before .before .if1 .taken) (map-refused internal _ _ (tells toldIndex (c .before .n .given .1) (c .before .before .before .internal-index .ensures)))
 
--- src/references.rt:139:36
 sub-t12 : tie.Need-sub-t12
 sub-t12 c = search needs
 
--- src/references.rt:139:5
 import-at-requires : tie.Need-import-at-requires
 import-at-requires c κs = search needs
 
--- src/references.rt:129:1
 returns-3 : tie.Need-returns-3
 returns-3 c = resolved-import _ _ _ _ (λ e. c .before .if1 .left (low-bits _ _ (c .before .before .bits .ensures) ∙ e)) (c .import-at .ensures ∙ ap (λ (n : ℕ). importAt (c .before .before .before .before .args .s .now) (library (c .before .before .before .before .args .lib .now)) (c .before .before .before .before .args .href - n)) (low-bits _ _ (c .before .before .bits .ensures)))
 

@@ -2,62 +2,46 @@ use Rattle.typelib.specs.TableLaws.{segment-none, segment-some, segment-
 use borrow.Author.Needs.{needs}
 use Rattle.typelib.proofs.tables.segment.Statement.{statement}
 use Rattle.typelib.proofs.tables.segment.Tie as tie
-use Rattle.typelib.proofs.tables.segment.Reads as reads
-use Rattle.typelib.proofs.tables.segment.Lts as lts
 
--- src/tables.rt:39:9
 returns : tie.Need-returns
 returns c = segment-none _ _ (c .if1 .taken)
 
--- src/tables.rt:41:22
 mul-offset : tie.Need-mul-offset
 mul-offset c = search needs
 
--- src/tables.rt:41:18
 mul-offset-2 : tie.Need-mul-offset-2
 mul-offset-2 c = search needs
 
--- src/tables.rt:41:18
 element-copy-out-offset : tie.Need-element-copy-out-offset
 element-copy-out-offset c = search needs
 
--- src/tables.rt:42:22
 mul-length : tie.Need-mul-length
 mul-length c = search needs
 
--- src/tables.rt:42:22
 add-length : tie.Need-add-length
 add-length c = search needs
 
--- src/tables.rt:42:18
 mul-length-2 : tie.Need-mul-length-2
 mul-length-2 c = search needs
 
--- src/tables.rt:42:18
 element-copy-out-length : tie.Need-element-copy-out-length
 element-copy-out-length c = search needs
 
--- src/tables.rt:44:9
 returns-2 : tie.Need-returns-2
 returns-2 c = segment-some _ _ _ (c .before .before .before .if1 .left) (segment-offset _ _ (c .if2 .taken))
 
--- src/tables.rt:47:9
 returns-3 : tie.Need-returns-3
 returns-3 c = segment-some _ _ _ (c .before .before .before .before .if1 .left) (segment-empty _ _ (c .before .if2 .left) (c .if3 .taken))
 
--- src/tables.rt:50:9
 returns-4 : tie.Need-returns-4
 returns-4 c = segment-some _ _ _ (c .before .before .before .before .before .if1 .left) (segment-length _ _ (c .before .before .if2 .left) (c .before .if3 .left) (c .if4 .taken))
 
--- src/tables.rt:53:13
 cast-t6 : tie.Need-cast-t6
 cast-t6 c = search needs
 
--- src/tables.rt:54:14
 cast-t7 : tie.Need-cast-t7
 cast-t7 c = search needs
 
--- src/tables.rt:35:1
 returns-5 : tie.Need-returns-5
 returns-5 c = segment-some _ _ _ (c .before .before .before .before .before .if1 .left) (segment-there _ _ (c .before .before .if2 .left) (c .before .if3 .left) (c .if4 .left))
 

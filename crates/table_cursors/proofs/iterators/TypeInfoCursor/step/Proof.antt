@@ -5,48 +5,34 @@ use Rattle.table_cursors.specs.CursorLaws.{typeinfos-long, typeinfos-end
 use borrow.Author.Needs.{needs}
 use Rattle.table_cursors.proofs.iterators.TypeInfoCursor.step.Statement.{statement}
 use Rattle.table_cursors.proofs.iterators.TypeInfoCursor.step.Tie as tie
-use Rattle.table_cursors.proofs.iterators.TypeInfoCursor.step.Reads as reads
-use Rattle.table_cursors.proofs.iterators.TypeInfoCursor.step.Lts as lts
-use Rattle.typelib.proofs.TypeLib.count.Reads as count-reads
-use Rattle.typelib.proofs.TypeLib.typeinfo.Reads as typeinfo-reads
 
--- src/iterators.rt:277:13
 returns : tie.Need-returns
 returns c = typeinfos-long _ _ _ (c .if1 .taken)
 
--- src/iterators.rt:279:12
 count-requires : tie.Need-count-requires
 count-requires c κs = search needs
 
--- src/iterators.rt:279:12
 cast-if2 : tie.Need-cast-if2
 cast-if2 c = search needs
 
--- src/iterators.rt:280:13
 returns-2 : tie.Need-returns-2
 returns-2 c = typeinfos-end _ _ _ (c .before .before .before .if1 .left) (omega (arith, c .before .before .count .ensures))
 
--- src/iterators.rt:282:36
 add-t9 : tie.Need-add-t9
 add-t9 c = search needs
 
--- src/iterators.rt:284:15
 typeinfo-requires : tie.Need-typeinfo-requires
 typeinfo-requires c κs = search needs
 
--- src/iterators.rt:285:35
 enum-known-ti : tie.Need-enum-known-ti
 enum-known-ti c = search needs
 
--- src/iterators.rt:286:37
 enum-known-n : tie.Need-enum-known-n
 enum-known-n c = search needs
 
--- src/iterators.rt:272:5
 returns-3 : tie.Need-returns-3
 returns-3 c = typeinfos-next _ _ _ _ (c .before .before .before .before .before .before .before .before .if1 .left) (omega (arith, c .before .before .before .before .before .before .before .count .ensures)) (tells toldTypeInfo (c .before .ti .given .1) (c .before .before .before .typeinfo .ensures))
 
--- src/iterators.rt:272:5
 returns-4 : tie.Need-returns-4
 returns-4 c = typeinfos-next _ _ _ _ (c .before .before .before .before .before .before .before .before .if1 .left) (omega (arith, c .before .before .before .before .before .before .before .count .ensures)) (tells toldTypeInfo (c .before .n .given .1) (c .before .before .before .typeinfo .ensures))
 
