@@ -5,7 +5,7 @@ use Rattle.typelib.specs.Header.{library, tableAt, pairsAt, numbersWith,
 use Rattle.util.specs.Read.{read-zero}
 use Prim.Native.Nat.{ℕ, _+_, _*_}
 use native.Mathlib.Omega.{arith}
-use mathlib.Core.Path.{_∙_, ap}
+use mathlib.Core.Path.{_≡_, _∙_, ap}
 use borrow.Author.Needs.{needs}
 use Rattle.typelib.proofs.TypeLib.parse.Statement.{statement}
 use Rattle.typelib.proofs.TypeLib.parse.Tie as tie
