@@ -3,7 +3,7 @@ use Rattle.sheet_trees.proofs.TreeLaws.{too-deep, leaf-laid, branch-lai
 use native.Mathlib.Nat.{pos-of-ne-zero}
 use native.Mathlib.Omega.{arith}
 use borrow.Author.Needs.{needs}
-use Prim.Native.Nat.{ℕ}
+use Prim.Native.Nat.{ℕ, _<_}
 use borrow.Fn.Kinds.{In}
 use borrow.Fn.PlainCycle.{Measures, is, falls, and}
 use Rattle.sheet_trees.proofs.trees.put_nested.Reads as put-nested
