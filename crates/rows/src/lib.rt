@@ -22,16 +22,16 @@ use records::arraydesc::BoundAnswer;
 use records::guidentry::GuidAnswer;
 use records::refrecord::RefRecord;
 use records::types::TypeDescription;
-use table_cursors::iterators::GuidsAnswer;
 use table_cursors::iterators::GuidStep;
-use table_cursors::iterators::ImpFilesAnswer;
+use table_cursors::iterators::GuidsAnswer;
 use table_cursors::iterators::ImpFileStep;
-use table_cursors::iterators::ImportsAnswer;
+use table_cursors::iterators::ImpFilesAnswer;
 use table_cursors::iterators::ImportStep;
-use table_cursors::iterators::NamesAnswer;
+use table_cursors::iterators::ImportsAnswer;
 use table_cursors::iterators::NameStep;
-use table_cursors::iterators::TypeInfosAnswer;
+use table_cursors::iterators::NamesAnswer;
 use table_cursors::iterators::TypeInfoStep;
+use table_cursors::iterators::TypeInfosAnswer;
 use typelib::descriptors::ArrayDescAnswer;
 use typelib::descriptors::DescriptionAnswer;
 use typelib::descriptors::PairAnswer;
@@ -276,7 +276,11 @@ pub fn of_names(a: NamesAnswer) -> Row
     ensures { λ r. ⌜ toldRow r ≡ map (cursor nameNumbers) (toldNames a) ⌝ }
 {
     match a {
-        NamesAnswer::Value(c) => Row::Plain(Longs::Three(c.pos as u64, c.end as u64, c.start as u64)),
+        NamesAnswer::Value(c) => Row::Plain(Longs::Three(
+            c.pos as u64,
+            c.end as u64,
+            c.start as u64,
+        )),
         NamesAnswer::Refused(n) => Row::Refused(n),
     }
 }

@@ -62,7 +62,13 @@ fn after_variable(
     let varkind = emit::half_at(s, var.at, 0x0C);
     let word = emit::word_at(s, var.at, 0x10);
     let t = names::after_memid(typeinfos::var_memid(&*s, ti, index), to);
-    let t = names::after_name_by(&*s, lib, names, typeinfos::var_name_offset(&*s, ti, index), t);
+    let t = names::after_name_by(
+        &*s,
+        lib,
+        names,
+        typeinfos::var_name_offset(&*s, ti, index),
+        t,
+    );
     let t = trees::after_nested(&*s, lib, emit::word_at(s, var.at, 0x04), t);
     // the word at 0x08 and the kind
     let t = crate::ahead(t, 6);

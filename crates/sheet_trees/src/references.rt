@@ -108,7 +108,13 @@ fn put_own(s: &[u8], lib: &Numbers, flags: u32, word: u32, out: &mut [u8], to: u
     }
 }
 
-fn put_opt_file(s: &[u8], lib: &Numbers, imp_file: ImpFileAnswer, out: &mut [u8], to: usize) -> usize
+fn put_opt_file(
+    s: &[u8],
+    lib: &Numbers,
+    imp_file: ImpFileAnswer,
+    out: &mut [u8],
+    to: usize,
+) -> usize
     ensures { λ r. ⌜ Emits (optFileEmitted (now (s .entry)) (library (now (lib .entry))) «imp_file») to (now (out .entry)) r (now (out .exit)) ⌝ }
 {
     match imp_file {

@@ -44,7 +44,14 @@ pub fn put_tree(s: &[u8], lib: &Numbers, field: u32, out: &mut [u8], to: usize) 
 }
 
 // The same, of at most `levels` descriptions; refusal 11 where there are more.
-fn put_nested(s: &[u8], lib: &Numbers, field: u32, levels: usize, out: &mut [u8], to: usize) -> usize
+fn put_nested(
+    s: &[u8],
+    lib: &Numbers,
+    field: u32,
+    levels: usize,
+    out: &mut [u8],
+    to: usize,
+) -> usize
     ensures { λ r. ⌜ Emits (nestedEmitted (now (s .entry)) (library (now (lib .entry))) levels field) to (now (out .entry)) r (now (out .exit)) ⌝ }
 {
     if levels == 0 {

@@ -13,7 +13,13 @@ ghost use Rattle.emit.specs.Emit.{Emits};
 ghost use Rattle.typelib.specs.Header.{library};
 
 // Type `index` of the library; 6, 7 or 8 where there is none.
-pub fn put_type_of(s: &[u8], lib: &Numbers, index: TypeInfoIndex, out: &mut [u8], to: usize) -> usize
+pub fn put_type_of(
+    s: &[u8],
+    lib: &Numbers,
+    index: TypeInfoIndex,
+    out: &mut [u8],
+    to: usize,
+) -> usize
     ensures { λ r. ⌜ Emits (typeEmitted (now (s .entry)) (library (now (lib .entry))) (index .0)) to (now (out .entry)) r (now (out .exit)) ⌝ }
 {
     match typeinfos::typeinfo_at(lib, &*s, index) {

@@ -293,11 +293,7 @@ impl TypeInfoCursor {
     {
         let count = lib.count() as usize;
         let index = self.index;
-        if count < index.0 {
-            0
-        } else {
-            count - index.0
-        }
+        if count < index.0 { 0 } else { count - index.0 }
     }
 }
 

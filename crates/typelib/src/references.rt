@@ -82,7 +82,14 @@ pub fn imp_file_at(lib: &Numbers, s: &[u8], offset: u32) -> ImpFileAnswer
     match tables::table_place(lib, s, IMPORT_FILES, offset, 14, true) {
         PlaceAnswer::Value(head) => {
             let name = (util::u16_or_zero(s, head.at + 12) / 4) as usize;
-            match tables::table_place(lib, s, IMPORT_FILES, offset, (name + 14 + 3) / 4 * 4, false) {
+            match tables::table_place(
+                lib,
+                s,
+                IMPORT_FILES,
+                offset,
+                (name + 14 + 3) / 4 * 4,
+                false,
+            ) {
                 PlaceAnswer::Value(place) => ImpFileAnswer::Value(ImpFile {
                     at: place.at,
                     len: place.len,

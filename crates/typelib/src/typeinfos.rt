@@ -169,7 +169,12 @@ pub fn var_name_offset(s: &[u8], ti: TypeInfoEntry, index: usize) -> I32Answer
     ensures { λ r. ⌜ toldI32 r ≡ signed32 (varNameOffset (now (s .entry)) ti index) ⌝ }
 {
     match declared_counts(s, ti) {
-        CountsAnswer::Value(c) => signed(aux_at(s, ti, 2 * (c.funcs as u32) + c.vars as u32, index)),
+        CountsAnswer::Value(c) => signed(aux_at(
+            s,
+            ti,
+            2 * (c.funcs as u32) + c.vars as u32,
+            index,
+        )),
         CountsAnswer::Refused(n) => I32Answer::Refused(n),
     }
 }

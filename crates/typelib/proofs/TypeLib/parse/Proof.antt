@@ -77,7 +77,7 @@ returns-6 c =
     let t = c .before .before .table-at .ensures .0 in
     let count = c .before .before .before .before .u32-or-zero2 .result in
     let l : _≡_ {A = TypeLib} (library (c .numbers-at .result)) (libraryOf s) =
-        ap library (c .numbers-at .ensures ∙ ap (λ (k : ℕ). numbersWith (pairsAt s (k + 4 * count)) count k) t ∙ ap (λ (k : ℕ). numbersWith (pairsAt s (tableAt s + 4 * k)) k (tableAt s)) n) in
+    ap library (c .numbers-at .ensures ∙ ap (λ (k : ℕ). numbersWith (pairsAt s (k + 4 * count)) count k) t ∙ ap (λ (k : ℕ). numbersWith (pairsAt s (tableAt s + 4 * k)) k (tableAt s)) n) in
     ap (λ (x : TypeLib). parsed (value x)) l
     ∙ ap parsed (parse-library s (c .before .before .before .before .before .before .before .before .if1 .left) (c .before .before .before .before .before .before .before .if2 .left) (omega arith) (omega arith) (omega arith))
 
