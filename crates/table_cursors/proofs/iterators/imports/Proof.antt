@@ -1,12 +1,19 @@
 use Rattle.typelib.specs.TableLaws.{lent-long, lent-fits}
-use Rattle.records.specs.Answer.{value}
-use mathlib.Core.Path.{_≡_, ap}
+use Rattle.records.specs.Answer.{Answer, value}
+use mathlib.Core.Path.{ap}
+use Prim.Native.Nat.{_+_}
+use Rattle.records.specs.declared.answer.Place.{Place}
+use Rattle.table_cursors.specs.declared.iterators.ImportCursor.{ImportCursor}
 use borrow.Author.Needs.{needs}
 use Rattle.table_cursors.proofs.iterators.imports.Statement.{statement}
 use Rattle.table_cursors.proofs.iterators.imports.Tie as tie
 use Rattle.table_cursors.proofs.iterators.imports.Reads as reads
 use Rattle.table_cursors.proofs.iterators.imports.Lts as lts
 use Rattle.typelib.proofs.tables.table.Reads as table-reads
+
+-- the cursor over a table, at its start
+abbrev begun : Place → Answer ImportCursor
+begun table = value (record { pos = table .at; end = table .at + table .len })
 
 -- src/iterators.rt:142:9
 returns : tie.Need-returns
@@ -22,7 +29,7 @@ add-t5 c = search needs
 
 -- src/iterators.rt:138:1
 returns-2 : tie.Need-returns-2
-returns-2 c = lent-fits _ _ _ (c .before .before .before .before .if1 .left) (ap value (let e = c .before .table .ensures .0 in cc (e)))
+returns-2 c = lent-fits _ _ _ (c .before .before .before .before .if1 .left) (ap begun (c .before .table .ensures .0))
 
 pub imports-spec : {M : Type 1} → statement M
 imports-spec = tie.close (tie.spec returns table-requires add-t5 returns-2)
