@@ -98,3 +98,7 @@ pub record Tried (P : Type 0) (x : Answer Bytes) (to : ℕ) (o : List ℕ) (r : 
 -- byte 1, the length in one byte and the bytes at a place of the library
 unfoldable pub countedPart : List ℕ → Place → Answer Bytes
 countedPart s p = value (leBytes 2 (1 + 256 * (length (partOf s (value p)) % 256))) ▸ value (partOf s (value p))
+
+-- THE SHORT WAY WAS TRIED: the counted part was emitted just where that way is taken
+abbrev pub TriedShort : List ℕ → Place → ℕ → List ℕ → ℕ → List ℕ → Type 0
+TriedShort s part to o r o′ = Tried (Short s part to o) (countedPart s part) to o r o′

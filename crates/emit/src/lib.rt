@@ -17,7 +17,7 @@ ghost use Rattle.util.specs.Read.{read, orZero};
 ghost use Rattle.records.specs.Answer.{value, refused};
 ghost use Rattle.records.specs.Record.{partOf};
 ghost use Rattle.description.specs.Format.{leBytes};
-ghost use Rattle.emit.specs.Emit.{Emitted, Overwritten, Short, Tried, countedPart, put, past};
+ghost use Rattle.emit.specs.Emit.{Emitted, Overwritten, TriedShort, put, past};
 
 // No place is past this, one more than the most bytes that a sheet has. A number past it is a refusal: 0 is the next, and so on.
 pub const PAST: usize = 16_777_217;
@@ -206,7 +206,7 @@ pub fn put_part(s: &[u8], place: Place, out: &mut [u8], to: usize) -> usize
 // The byte 1, the length in one byte and the bytes at a place of the library; 0, and nothing done, where they are not short, or there
 // is no room for more than they are. (Most names go this way: it is one row of tests and moves.)
 pub fn put_short_counted(s: &[u8], place: Place, out: &mut [u8], to: usize) -> usize
-    ensures { λ r. ⌜ Tried (Short (now (s .entry)) place to (now (out .entry))) (countedPart (now (s .entry)) place) to (now (out .entry)) r (now (out .exit)) ⌝ }
+    ensures { λ r. ⌜ TriedShort (now (s .entry)) place to (now (out .entry)) r (now (out .exit)) ⌝ }
 {
     let at = place.at;
     if place.len <= SHORT {

@@ -1,9 +1,16 @@
 use Rattle.typelib.specs.TableLaws.{lent-long, lent-fits}
-use Rattle.records.specs.Answer.{value}
+use Rattle.records.specs.Answer.{Answer, value}
 use mathlib.Core.Path.{ap}
+use Prim.Native.Nat.{_+_}
+use Rattle.records.specs.declared.answer.Place.{Place}
+use Rattle.table_cursors.specs.declared.iterators.GuidCursor.{GuidCursor}
 use borrow.Author.Needs.{needs}
 use Rattle.table_cursors.proofs.iterators.guids.Statement.{statement}
 use Rattle.table_cursors.proofs.iterators.guids.Tie as tie
+
+-- the cursor over a table, at its start
+abbrev begun : Place → Answer GuidCursor
+begun table = value (record { pos = table .at; end = table .at + table .len })
 
 returns : tie.Need-returns
 returns c = lent-long _ _ (c .if1 .taken)
@@ -15,7 +22,7 @@ add-t5 : tie.Need-add-t5
 add-t5 c = search needs
 
 returns-2 : tie.Need-returns-2
-returns-2 c = lent-fits _ _ _ (c .before .before .before .before .if1 .left) (ap value (let e = c .before .table .ensures .0 in cc (e)))
+returns-2 c = lent-fits _ _ _ (c .before .before .before .before .if1 .left) (ap begun (c .before .table .ensures .0))
 
 pub guids-spec : {M : Type 1} → statement M
 guids-spec = tie.close (tie.spec returns table-requires add-t5 returns-2)
