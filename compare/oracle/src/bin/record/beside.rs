@@ -1,6 +1,8 @@
 //! Libraries that are read beside other bytes than they were parsed from. The reference cannot hold such a
 //! one, so the answers are document 01's, by `rules.rs`. Where the reference's own code answers when a
 //! library's numbers are put beside other bytes, it must answer the same.
+//!
+//! That too many bytes are 1 to every entry is in no file: the replay has no memory for so many.
 
 mod rules;
 
@@ -31,7 +33,8 @@ pub struct Pair {
 
 /// A library with every table beside bytes of the same length that hold another library, beside its own
 /// bytes cut off in the name table and in the offset table, beside bytes without a header, beside fewer
-/// than a header has, and beside none; a library without tables and one without typeinfos beside it.
+/// than a header has, and beside none; a library without types or tables, and one of two types without
+/// tables, beside it.
 pub fn all() -> Vec<Pair> {
     let own = whole();
     let other = another(&own);
@@ -112,8 +115,8 @@ fn are_same(a: &[Reading], b: &[Reading]) -> bool {
     bytes(a) == bytes(b)
 }
 
-/// Of two libraries every answer that needs the library's numbers is another one if the lent bytes' own
-/// numbers are taken, and every other answer if the library's own bytes are.
+/// Checks the pair of two libraries: every answer that needs the library's numbers would be another one
+/// by the numbers of the lent bytes, and every field of the header another one in the library's own bytes.
 fn tells_apart(pair: &Pair) {
     assert!(TypeLib::parse(&pair.lent).is_ok());
     for (question, readings) in &pair.asked {

@@ -49,7 +49,7 @@ fn main() -> ExitCode {
             }
             ExitCode::SUCCESS
         }
-        [option] if option == "--stats" => stats(&entries, &libraries, &files),
+        [option] if option == "--stats" => stats(&entries, &libraries, &pairs, &files),
         _ => {
             eprintln!("usage: record [--stats]");
             ExitCode::FAILURE
@@ -60,14 +60,22 @@ fn main() -> ExitCode {
 /// A file's path from the project root, and its bytes.
 type File = (String, Vec<u8>);
 
-fn stats(entries: &[records::Entry], libraries: &[libraries::Library], files: &[File]) -> ExitCode {
+fn stats(
+    entries: &[records::Entry],
+    libraries: &[libraries::Library],
+    pairs: &[beside::Pair],
+    files: &[File],
+) -> ExitCode {
     let records = stats::records(entries);
     println!();
     let readings = stats::libraries(libraries);
     println!();
+    let beside = stats::beside(pairs);
+    println!();
     println!("every method of a record tried both ways: {records}");
     println!("every reading of a library tried each way: {readings}");
-    let mut complete = records && readings;
+    println!("a library beside other bytes refused each way: {beside}");
+    let mut complete = records && readings && beside;
     for (path, bytes) in files {
         let same = fs::read(from_project_root(path)).is_ok_and(|there| there == *bytes);
         println!(
