@@ -155,6 +155,10 @@ pub fn parse_refusal(error: Error) -> u8 {
 pub fn typeinfo_refusal(error: Error) -> u8 {
     match error {
         Error::TypeInfoOutOfRange { .. } => 6,
+        // Only where a library is beside other bytes than it was parsed from.
+        Error::InvalidData {
+            context: "cannot read typeinfo offset",
+        } => 6,
         Error::InvalidData {
             context: "typeinfo segment missing",
         } => 7,
@@ -165,13 +169,18 @@ pub fn typeinfo_refusal(error: Error) -> u8 {
 
 /// The answers to a question, in the order in which the replay compares them.
 pub fn answers(lent: &[u8], question: Question) -> Vec<Reading> {
+    answers_beside(lent, lent, question)
+}
+
+/// The answers of the library in its own bytes, when its numbers stand beside the lent bytes.
+pub fn answers_beside(own: &[u8], lent: &[u8], question: Question) -> Vec<Reading> {
     let Question { ask, numbers } = question;
     let mut told = Told {
         lent,
         ask,
         readings: Vec::new(),
     };
-    let lib = match (ask, TypeLib::parse(lent)) {
+    let lib = match (ask, TypeLib::parse(own)) {
         (Ask::Sheet, _) => {
             told.sheet(numbers[0] as usize);
             return told.readings;
@@ -182,6 +191,7 @@ pub fn answers(lent: &[u8], question: Question) -> Vec<Reading> {
         (Ask::Parse, Ok(_)) => return vec![reading("parse", lent, Some(Refused(0)))],
         (_, parsed) => parsed.expect("a library that is asked for more can be parsed"),
     };
+    let lib = lib.over(lent);
     match ask {
         _ if ask < Ask::Segment => told.header(&lib),
         _ if ask < Ask::NameBytes => told.table(&lib, numbers[0] as usize),
@@ -278,10 +288,7 @@ impl<'a> Told<'a> {
                 self.own(bytes);
                 self.tell("array_desc_at", bytes);
             }
-            Ask::TypeDescription => {
-                self.description("type_description", lib, word);
-                self.description("type_description_at", lib, word);
-            }
+            Ask::TypeDescription => self.description(lib, word),
             Ask::ConstValue => {
                 self.constant("const_value", lib.const_value(word));
                 self.constant("const_at", lib.const_value(word));
@@ -298,17 +305,17 @@ impl<'a> Told<'a> {
     }
 
     /// The case's code in document 01's sheet, and what the case holds.
-    fn description(&mut self, method: &'static str, lib: &TypeLib<'a>, word: i32) {
+    fn description(&mut self, lib: &TypeLib<'a>, word: i32) {
         match lib.type_description(word) {
-            None => self.tell(method, Refused(NOTHING)),
-            Some(TypeDescription::Base(code)) => self.tell(method, Case(1u8, code)),
-            Some(TypeDescription::Pointer(field)) => self.tell(method, Case(2u8, field)),
-            Some(TypeDescription::SafeArray(field)) => self.tell(method, Case(3u8, field)),
+            None => self.own(Refused(NOTHING)),
+            Some(TypeDescription::Base(code)) => self.own(Case(1u8, code)),
+            Some(TypeDescription::Pointer(field)) => self.own(Case(2u8, field)),
+            Some(TypeDescription::SafeArray(field)) => self.own(Case(3u8, field)),
             Some(TypeDescription::CArray(array)) => {
-                self.tell(method, 4u8);
+                self.own(4u8);
                 self.tell("C array", array.held());
             }
-            Some(TypeDescription::UserDefined(href)) => self.tell(method, Case(5u8, href)),
+            Some(TypeDescription::UserDefined(href)) => self.own(Case(5u8, href)),
         }
     }
 

@@ -5,6 +5,8 @@ use crate::compare::same_place;
 use crate::compare::same_usize;
 use crate::entry::Item;
 use crate::progress::Progress;
+use crate::starts;
+use crate::starts::Start;
 use crate::steps::State;
 use crate::steps::chain;
 use crate::steps::state_of;
@@ -52,29 +54,17 @@ fn of_library(
     reading: u8,
     before: Progress,
 ) -> Progress {
-    let from = match reading {
-        57 => {
-            let cursor = table_cursors::iterators::guids(lib, lent);
-            state_of(cursor.pos, cursor.end, 0)
-        }
-        58 => {
-            let cursor = table_cursors::iterators::names(lib, lent);
-            state_of(cursor.pos, cursor.end, cursor.start)
-        }
-        59 => {
-            let cursor = table_cursors::iterators::imports(lib, lent);
-            state_of(cursor.pos, cursor.end, 0)
-        }
-        60 => {
-            let cursor = table_cursors::iterators::imp_files(lib, lent);
-            state_of(cursor.pos, cursor.end, 0)
-        }
-        _ => {
-            let cursor = table_cursors::iterators::typeinfos();
-            state_of(cursor.index, 0, 0)
-        }
+    let start = match reading {
+        57 => starts::guids(lent, lib),
+        58 => starts::names(lent, lib),
+        59 => starts::imports(lent, lib),
+        60 => starts::imp_files(lent, lib),
+        _ => starts::typeinfos(lent),
     };
-    run(lent, lib, recorded, reading, from, before)
+    match start {
+        Start::At(from) => run(lent, lib, recorded, reading, from, before),
+        Start::Refused(n) => same_place(recorded, before, PlaceAnswer::Refused(n)),
+    }
 }
 
 fn funcs(

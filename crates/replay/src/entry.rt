@@ -1,7 +1,8 @@
 // The form of a recorded file: a count of 4 bytes, and that many items.
 //
 // An item lends bytes, or asks a question about those lent last. It lends by the byte 255, the count
-// of the bytes (4) and these. A question is the number of what is asked (1), three numbers (4 each),
+// of the bytes (4) and these; by the byte 254 in the same way, and then the library that is asked stays the one
+// in the bytes lent by 255 last. A question is the number of what is asked (1), three numbers (4 each),
 // the count of the answers' bytes (2) and these. All numbers have their lowest byte first.
 use records::answer::Place;
 use records::answer::PlaceAnswer;
@@ -9,8 +10,10 @@ use records::answer::PlaceAnswer;
 // Where the first item starts, behind the count.
 pub const FIRST: usize = 4;
 
-// The kind of an item that lends bytes.
+// The kind of an item that lends bytes, and of one that lends other bytes for the same library.
 pub const LENT: u8 = 255;
+
+pub const BESIDE: u8 = 254;
 
 // An item that lends no bytes, and a question that has no answers.
 const SMALLEST_LENT: usize = 5;
@@ -18,7 +21,7 @@ const SMALLEST_LENT: usize = 5;
 const SMALLEST_QUESTION: usize = 15;
 
 pub struct Item {
-    // What is asked, or LENT.
+    // What is asked, or LENT or BESIDE.
     pub kind: u8,
     // The question's numbers.
     pub first: u32,
@@ -29,6 +32,12 @@ pub struct Item {
     pub len: usize,
     // Where the next item starts.
     pub end: usize,
+}
+
+// Where the bytes lie in the file that questions are about, and those that their library is parsed from.
+pub struct Lent {
+    pub bytes: Place,
+    pub own: Place,
 }
 
 pub enum ItemRead {
@@ -47,7 +56,7 @@ pub(crate) fn read(s: &[u8], at: usize) -> ItemRead {
     if size <= at {
         return ItemRead::Malformed;
     }
-    if s[at] == LENT {
+    if BESIDE <= s[at] {
         return read_lent(s, at);
     }
     read_question(s, at)
@@ -66,7 +75,7 @@ fn read_lent(s: &[u8], at: usize) -> ItemRead {
         return ItemRead::Malformed;
     }
     ItemRead::Value(Item {
-        kind: LENT,
+        kind: s[at],
         first: 0,
         second: 0,
         third: 0,
@@ -123,10 +132,37 @@ pub(crate) fn count(s: &[u8], first: u8, end: u8) -> CountRead {
 }
 
 fn is_of(kind: u8, first: u8, end: u8) -> bool {
-    kind == LENT || first <= kind && kind < end
+    BESIDE <= kind || first <= kind && kind < end
+}
+
+pub(crate) fn nothing_lent() -> Lent {
+    let bytes = Place { at: 0, len: 0 };
+    let own = Place { at: 0, len: 0 };
+    Lent { bytes, own }
+}
+
+// What is lent behind an item, where that was lent before it.
+pub(crate) fn lent_behind(before: Lent, item: Item) -> Lent {
+    let bytes = Place {
+        at: item.at,
+        len: item.len,
+    };
+    let kind = item.kind;
+    match kind {
+        LENT => Lent { bytes, own: bytes },
+        BESIDE => {
+            let own = before.own;
+            Lent { bytes, own }
+        }
+        _ => before,
+    }
 }
 
 // The `len` bytes of the file at `at`.
 pub(crate) fn part(s: &[u8], at: usize, len: usize) -> &[u8] {
-    records::answer::part(s, PlaceAnswer::Value(Place { at, len }))
+    bytes_at(s, Place { at, len })
+}
+
+pub(crate) fn bytes_at(s: &[u8], place: Place) -> &[u8] {
+    records::answer::part(s, PlaceAnswer::Value(place))
 }

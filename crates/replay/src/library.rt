@@ -17,9 +17,16 @@ pub const END: u8 = 77;
 
 const SHEET: u8 = 63;
 
-// Compares all answers to a question about the library in the lent bytes. Of one that is refused
-// nothing but that and the sheet can be asked; what is left uncompared counts as a difference at the end.
-pub(crate) fn replay(lent: &[u8], recorded: &[u8], item: Item, before: Progress) -> Progress {
+// Compares all answers to a question about the library in its own bytes, beside the lent bytes, which
+// mostly are the same. Of one that is refused nothing but that and the sheet can be asked; what is left
+// uncompared counts as a difference at the end.
+pub(crate) fn replay(
+    own: &[u8],
+    lent: &[u8],
+    recorded: &[u8],
+    item: Item,
+    before: Progress,
+) -> Progress {
     if item.kind < kinds::COUNT {
         return before;
     }
@@ -27,7 +34,7 @@ pub(crate) fn replay(lent: &[u8], recorded: &[u8], item: Item, before: Progress)
     if reading == SHEET {
         return sheets::replay(lent, recorded, item.first, before);
     }
-    let parsed = TypeLib::parse(lent);
+    let parsed = TypeLib::parse(own);
     if reading == 0 {
         return same(recorded, before, bytes::refusal(parsed.number, 0, 0));
     }

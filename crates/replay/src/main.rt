@@ -1,9 +1,10 @@
 // Asks the crates `records`, `typelib` and `sheet` the recorded questions, and compares their answers
 // with those of the reference, the Rust crate.
 //
-// Two files in the working folder hold the questions and the reference's answers: `records` those
-// about single records, `libraries` those about whole libraries. compare/oracle/src/bin/record makes
-// them, and its file.rs describes them.
+// Three files in the working folder hold the questions and the answers: `records` those about single
+// records, `libraries` those about whole libraries, and `beside` those about a library that is read
+// beside other bytes than it was parsed from. The Rust cannot hold such a one: these answers are by
+// document 01. compare/oracle/src/bin/record makes the files, and its file.rs describes them.
 mod bytes;
 mod compare;
 mod constant;
@@ -18,6 +19,7 @@ mod names;
 mod progress;
 mod report;
 mod sheets;
+mod starts;
 mod steps;
 mod tables;
 mod words;
@@ -25,6 +27,7 @@ mod words;
 use entry::CountRead;
 use entry::Item;
 use entry::ItemRead;
+use entry::Lent;
 use progress::Progress;
 
 // A file that fills all of this may be longer, and is not replayed.
@@ -33,6 +36,7 @@ const ROOM: usize = 1_048_576;
 fn main() {
     replay_file(b"records", 0, kinds::COUNT);
     replay_file(b"libraries", kinds::COUNT, library::END);
+    replay_file(b"beside", kinds::COUNT, library::END);
 }
 
 // Replays a file, whose questions ask what is from `first` on and before `end`.
@@ -67,7 +71,7 @@ fn replay(file: &[u8], room: &[u8; ROOM], size: usize, first: u8, end: u8) {
     }
 }
 
-// Replays the questions kind by kind, with a line for each kind and one for the file.
+// Replays the questions kind by kind, with a line for each kind that is asked and one for the file.
 fn replay_kinds(file: &[u8], s: &[u8], count: u32, first: u8, end: u8) {
     let mut all = progress::start(0, 0);
     let mut kind = first;
@@ -85,20 +89,15 @@ fn replay_kinds(file: &[u8], s: &[u8], count: u32, first: u8, end: u8) {
 // each. (`entry::count` has found no item malformed.)
 fn replay_kind(s: &[u8], count: u32, kind: u8, shown: u64) -> Progress {
     let mut progress = progress::start(kind, shown);
-    let mut lent_at: usize = 0;
-    let mut lent_len: usize = 0;
+    let mut lent = entry::nothing_lent();
     let mut at = entry::FIRST;
     let mut number: u32 = 0;
     while number < count {
         let ItemRead::Value(item) = entry::read(s, at) else {
             return progress;
         };
-        if item.kind == entry::LENT {
-            lent_at = item.at;
-            lent_len = item.len;
-        }
+        lent = entry::lent_behind(lent, item);
         if item.kind == kind {
-            let lent = entry::part(s, lent_at, lent_len);
             progress = replay_question(lent, s, item, progress::asked(progress, number));
         }
         at = item.end;
@@ -108,12 +107,13 @@ fn replay_kind(s: &[u8], count: u32, kind: u8, shown: u64) -> Progress {
 }
 
 // Compares all answers to a question. What is left of the recorded bytes is a difference.
-fn replay_question(lent: &[u8], s: &[u8], item: Item, before: Progress) -> Progress {
+fn replay_question(places: Lent, s: &[u8], item: Item, before: Progress) -> Progress {
     let recorded = entry::part(s, item.at, item.len);
+    let lent = entry::bytes_at(s, places.bytes);
     let progress = if item.kind < kinds::COUNT {
         kinds::replay(lent, recorded, item, before)
     } else {
-        library::replay(lent, recorded, item, before)
+        library::replay(entry::bytes_at(s, places.own), lent, recorded, item, before)
     };
     progress::noted(progress, progress.at == recorded.len())
 }

@@ -2,11 +2,9 @@
 use crate::bytes::number;
 use crate::bytes::numbers;
 use crate::bytes::refusal;
-use crate::compare::i32_bits;
 use crate::compare::same;
 use crate::compare::same_i32;
 use crate::compare::same_place;
-use crate::compare::same_u32;
 use crate::entry::Item;
 use crate::progress::Progress;
 use records::answer::Place;
@@ -14,6 +12,7 @@ use records::answer::PlaceAnswer;
 use records::typeinfo::TypeInfoEntry;
 use typelib::TypeInfoIndex;
 use typelib::TypeLib;
+use typelib::tables;
 use typelib::typeinfos;
 use typelib::typeinfos::CountsAnswer;
 use typelib::typeinfos::OffsetAnswer;
@@ -54,14 +53,23 @@ pub(crate) fn replay(
     }
 }
 
-// The offset, and the word of the table that is its pattern.
+// The offset, and the same where the library's numbers are lent.
 fn offset(lent: &[u8], lib: TypeLib, recorded: &[u8], index: usize, before: Progress) -> Progress {
-    let answer = match lib.typeinfo_offset(lent, TypeInfoIndex(index)) {
-        OffsetAnswer::Value(offset) => number(4, i32_bits(offset.0)),
+    let index = TypeInfoIndex(index);
+    let progress = same_offset(recorded, before, lib.typeinfo_offset(lent, index));
+    same_offset(
+        recorded,
+        progress,
+        tables::offset_word(&lib.numbers, lent, index),
+    )
+}
+
+fn same_offset(recorded: &[u8], before: Progress, answer: OffsetAnswer) -> Progress {
+    let answer = match answer {
+        OffsetAnswer::Value(offset) => number(4, offset.0 as u64),
         OffsetAnswer::Refused(n) => refusal(n, 4, 0),
     };
-    let progress = same(recorded, before, answer);
-    same_u32(recorded, progress, lib.offset_word(lent, index))
+    same(recorded, before, answer)
 }
 
 pub(crate) fn same_typeinfo(recorded: &[u8], before: Progress, answer: TypeInfoAnswer) -> Progress {

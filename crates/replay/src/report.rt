@@ -23,7 +23,11 @@ pub(crate) fn difference(item: u32, kind: u8, answer: u32) {
     print(b" differs\n");
 }
 
+// Of a kind that the file does not ask there is no line.
 pub(crate) fn kind_line(of_kind: Progress) {
+    if of_kind.questions == 0 {
+        return;
+    }
     names::print_kind(of_kind.kind);
     counts_line(of_kind);
 }

@@ -30,6 +30,7 @@ use table_cursors::iterators::NameCursor;
 use table_cursors::iterators::NameStep;
 use table_cursors::iterators::TypeInfoCursor;
 use table_cursors::iterators::TypeInfoStep;
+use typelib::TypeInfoIndex;
 use typelib::TypeLib;
 use typelib::typeinfos::TypeInfoAnswer;
 
@@ -64,6 +65,12 @@ pub(crate) fn chain(table: Place, next: u32) -> State {
         rest: 0,
         next,
     }
+}
+
+// The cursor over typeinfos, by the index of its next one.
+pub(crate) fn at_index(cursor: TypeInfoCursor) -> State {
+    let index = cursor.index;
+    state_of(index.0, 0, 0)
 }
 
 pub(crate) fn step(
@@ -115,16 +122,15 @@ fn step_typeinfos(
     state: State,
     before: Progress,
 ) -> Stepped {
-    let cursor = TypeInfoCursor { index: state.pos };
+    let index = TypeInfoIndex(state.pos);
+    let cursor = TypeInfoCursor { index };
     let hinted = same_usize(recorded, before, UsizeAnswer::Value(cursor.size_hint(lib)));
     match cursor.step(lent, lib) {
         TypeInfoStep::Record(record, next) => Stepped {
-            state: state_of(next.index, 0, 0),
+            state: at_index(next),
             progress: members::same_typeinfo(recorded, hinted, TypeInfoAnswer::Value(record)),
         },
-        TypeInfoStep::Refused(n, next) => {
-            refused(recorded, n, state, state_of(next.index, 0, 0), hinted)
-        }
+        TypeInfoStep::Refused(n, next) => refused(recorded, n, state, at_index(next), hinted),
     }
 }
 

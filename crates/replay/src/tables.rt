@@ -4,6 +4,7 @@ use crate::compare::same_place;
 use crate::progress::Progress;
 use records::answer::PlaceAnswer;
 use typelib::TypeLib;
+use typelib::tables;
 
 // `index` is a segment's, for the readings that take one.
 pub(crate) fn replay(
@@ -15,9 +16,13 @@ pub(crate) fn replay(
     before: Progress,
 ) -> Progress {
     match reading {
-        23 => same_place(recorded, before, lib.segment(lent, index)),
+        23 => same_place(recorded, before, lib.segment(index)),
         24 => same_place(recorded, before, lib.segment_data(lent, index)),
-        25 => same_place(recorded, before, PlaceAnswer::Value(lib.table(lent, index))),
+        25 => same_place(
+            recorded,
+            before,
+            PlaceAnswer::Value(tables::table(&lib.numbers, index)),
+        ),
         26 => same_place(recorded, before, lib.guid_hash_data(lent)),
         27 => same_place(recorded, before, lib.name_hash_data(lent)),
         28 => same_place(recorded, before, lib.lib_name(lent)),
@@ -39,13 +44,13 @@ pub(crate) fn place(
     before: Progress,
 ) -> Progress {
     let strict = segment == 1;
-    let placed = lib.table_place(lent, segment, offset, size, strict);
+    let placed = tables::table_place(&lib.numbers, lent, segment, offset, size, strict);
     let progress = same_place(recorded, before, placed);
-    match lib.segment(lent, segment) {
+    match lib.segment(segment) {
         PlaceAnswer::Value(table) => same_place(
             recorded,
             progress,
-            typelib::place_in(lent, table, offset, size, strict),
+            tables::place_in(lent, table, offset, size, strict),
         ),
         PlaceAnswer::Refused(n) => same_place(recorded, progress, PlaceAnswer::Refused(n)),
     }

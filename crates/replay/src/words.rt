@@ -1,5 +1,5 @@
 // The readings of a word: an offset in a table, a type field, a constant or a reference. Some are
-// there twice, for a signed number and for its 32-bit pattern.
+// there twice: for a signed number beside the library, and for its 32-bit pattern beside the library's numbers.
 use crate::compare::same_guid;
 use crate::compare::same_place;
 use crate::constant::same_constant;
@@ -12,7 +12,11 @@ use crate::descriptors::same_resolved;
 use crate::entry::Item;
 use crate::progress::Progress;
 use crate::tables;
+use typelib::Numbers;
 use typelib::TypeLib;
+use typelib::descriptors;
+use typelib::names;
+use typelib::references;
 
 pub(crate) fn replay(
     lent: &[u8],
@@ -27,6 +31,7 @@ pub(crate) fn replay(
     match reading {
         32 => same_place(recorded, before, lib.name(lent, word)),
         33 => same_place(recorded, before, lib.string(lent, word)),
+        37 => same_description(recorded, before, lib.type_description(lent, word)),
         40 => same_index(recorded, before, lib.resolve_hreftype(word)),
         41 => same_resolved(recorded, before, lib.resolve_hreftype_full(lent, word)),
         42 => tables::place(
@@ -40,7 +45,7 @@ pub(crate) fn replay(
         ),
         _ => {
             let once = by_number(lent, lib, recorded, reading, word, before);
-            by_pattern(lent, lib, recorded, reading, bits, once)
+            by_pattern(lent, &lib.numbers, recorded, reading, bits, once)
         }
     }
 }
@@ -58,7 +63,6 @@ fn by_number(
         34 => same_guid(recorded, before, lib.guid(lent, word)),
         35 => same_pair(recorded, before, lib.type_desc(lent, word)),
         36 => same_array(recorded, before, lib.array_desc(lent, word)),
-        37 => same_description(recorded, before, lib.type_description(lent, word)),
         38 => same_constant(recorded, before, constants::const_value(lib, lent, word)),
         39 => same_file(recorded, before, lib.imp_file(lent, word)),
         _ => before,
@@ -67,20 +71,23 @@ fn by_number(
 
 fn by_pattern(
     lent: &[u8],
-    lib: TypeLib,
+    lib: &Numbers,
     recorded: &[u8],
     reading: u8,
     word: u32,
     before: Progress,
 ) -> Progress {
     match reading {
-        31 => same_place(recorded, before, lib.name_at(lent, word)),
-        34 => same_place(recorded, before, lib.guid_at(lent, word)),
-        35 => same_pair(recorded, before, lib.type_desc_at(lent, word)),
-        36 => same_array(recorded, before, lib.array_desc_at(lent, word)),
-        37 => same_description(recorded, before, lib.type_description_at(lent, word)),
+        31 => same_place(recorded, before, names::name_at(lib, lent, word)),
+        34 => same_place(recorded, before, names::guid_at(lib, lent, word)),
+        35 => same_pair(recorded, before, descriptors::type_desc_at(lib, lent, word)),
+        36 => same_array(
+            recorded,
+            before,
+            descriptors::array_desc_at(lib, lent, word),
+        ),
         38 => same_constant(recorded, before, constants::const_at(lib, lent, word)),
-        39 => same_file(recorded, before, lib.imp_file_at(lent, word)),
+        39 => same_file(recorded, before, references::imp_file_at(lib, lent, word)),
         _ => before,
     }
 }

@@ -9,4 +9,14 @@ impl<'a> TypeLib<'a> {
             seg_offsets: [(0, 0); NUM_SEGMENTS],
         }
     }
+
+    /// This library's own numbers beside other bytes. The reference itself never holds such a one.
+    pub fn over<'b>(&self, data: &'b [u8]) -> TypeLib<'b> {
+        TypeLib {
+            data,
+            nrtypeinfos: self.nrtypeinfos,
+            offset_table_start: self.offset_table_start,
+            seg_offsets: self.seg_offsets,
+        }
+    }
 }

@@ -4,15 +4,18 @@ use Rattle.replay.proofs.replay_kind.Statement.{statement}
 use Rattle.replay.proofs.replay_kind.Tie as tie
 
 abbrev Inv-loop : tie.InvT-loop
-Inv-loop s count kind shown progress₀ lent-at₀ lent-len₀ at₀ number₀ progress lent-at lent-len at number =
+Inv-loop s count kind shown progress₀ lent₀ at₀ number₀ progress lent at number =
     Unit {0}
 
 abbrev μ-loop : tie.MeasureT-loop
-μ-loop s count kind shown progress₀ lent-at₀ lent-len₀ at₀ number₀ progress lent-at lent-len at number =
+μ-loop s count kind shown progress₀ lent₀ at₀ number₀ progress lent at number =
     count - number
 
 start-requires : tie.Need-start-requires Inv-loop μ-loop
 start-requires c κs = search needs
+
+nothing-lent-requires : tie.Need-nothing-lent-requires Inv-loop μ-loop
+nothing-lent-requires c κs = search needs
 
 loop-holds : tie.Need-loop-holds Inv-loop μ-loop
 loop-holds c = search needs
@@ -29,8 +32,8 @@ enum-told c = search needs
 returns : tie.Need-returns Inv-loop μ-loop
 returns c = search needs
 
-part-requires : tie.Need-part-requires Inv-loop μ-loop
-part-requires c κs = search needs
+lent-behind-requires : tie.Need-lent-behind-requires Inv-loop μ-loop
+lent-behind-requires c κs = search needs
 
 asked-requires : tie.Need-asked-requires Inv-loop μ-loop
 asked-requires c κs = search needs
@@ -57,12 +60,13 @@ replay-kind-spec =
     Inv-loop
     μ-loop
     start-requires
+    nothing-lent-requires
     loop-holds
     read-requires
     enum-known-item
     enum-told
     returns
-    part-requires
+    lent-behind-requires
     asked-requires
     replay-question-requires
     add-number

@@ -1,17 +1,20 @@
 //! The form of a recorded file, and what the replay of it prints.
 //!
 //! All numbers are little-endian. A file is u32 count of items, and the items. An item either lends
-//! the bytes that the questions behind it are about: `LENT`, u32 count of bytes and these. Or it is a
-//! question: u8 number of what is asked, three numbers u32, u16 count of answer bytes and these, the
-//! answers one behind another as `msft_typelib::readings` and `msft_typelib::library` make them.
+//! the bytes that the questions behind it are about: `LENT`, u32 count of bytes and these; `BESIDE` in the
+//! same form lends other bytes, and the library that is asked stays the one in the bytes lent by `LENT`
+//! last. Or it is a question: u8 number of what is asked, three numbers u32, u16 count of answer bytes and
+//! these, the answers one behind another as `msft_typelib::readings` and `msft_typelib::library` make them.
 
 use msft_typelib::readings::{Reading, VALUE};
 
-/// The number that no question has.
+/// The numbers that no question has.
 const LENT: u8 = 0xFF;
+const BESIDE: u8 = 0xFE;
 
 pub enum Item<'a> {
     Lent(&'a [u8]),
+    Beside(&'a [u8]),
     Question {
         number: u8,
         numbers: [u32; 3],
@@ -24,17 +27,14 @@ pub fn bytes(items: &[Item]) -> Vec<u8> {
     let mut file = count(items.len()).to_vec();
     for item in items {
         match item {
-            Item::Lent(bytes) => {
-                file.push(LENT);
-                file.extend(count(bytes.len()));
-                file.extend(*bytes);
-            }
+            Item::Lent(bytes) => lend(&mut file, LENT, bytes),
+            Item::Beside(bytes) => lend(&mut file, BESIDE, bytes),
             Item::Question {
                 number,
                 numbers,
                 readings,
             } => {
-                assert_ne!(*number, LENT);
+                assert!(*number < BESIDE);
                 file.push(*number);
                 for number in numbers {
                     file.extend(number.to_le_bytes());
@@ -50,6 +50,12 @@ pub fn bytes(items: &[Item]) -> Vec<u8> {
         }
     }
     file
+}
+
+fn lend(file: &mut Vec<u8>, how: u8, bytes: &[u8]) {
+    file.push(how);
+    file.extend(count(bytes.len()));
+    file.extend(bytes);
 }
 
 fn count(of: usize) -> [u8; 4] {
@@ -86,7 +92,7 @@ impl Counts {
     }
 }
 
-/// What the replay must print of a file: a line for each thing that is asked, `names` by number from
+/// What the replay must print of a file: a line for each thing that is asked there, `names` by number from
 /// `first` on, and a line for all.
 pub fn printed(items: &[Item], file: &str, first: u8, names: &[&str]) -> String {
     let mut text = String::new();
@@ -105,7 +111,9 @@ pub fn printed(items: &[Item], file: &str, first: u8, names: &[&str]) -> String 
                 all.add(readings);
             }
         }
-        text += &counts.line(name);
+        if counts.questions != 0 {
+            text += &counts.line(name);
+        }
     }
     text + &all.line(file)
 }

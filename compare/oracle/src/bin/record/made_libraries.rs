@@ -43,7 +43,7 @@ impl Made {
     }
 
     /// Sets a word of the header.
-    fn word(&mut self, offset: usize, word: u32) {
+    pub fn word(&mut self, offset: usize, word: u32) {
         self.header[offset..offset + 4].copy_from_slice(&word.to_le_bytes());
     }
 
@@ -83,7 +83,7 @@ impl Made {
     }
 }
 
-fn words(words: &[u32]) -> Vec<u8> {
+pub fn words(words: &[u32]) -> Vec<u8> {
     words.iter().flat_map(|word| word.to_le_bytes()).collect()
 }
 
@@ -388,7 +388,7 @@ fn types() -> Library {
 }
 
 /// An import file with that name, padded.
-fn imp_file(name: &[u8]) -> Vec<u8> {
+pub fn imp_file(name: &[u8]) -> Vec<u8> {
     let mut entry = words(&[0, 0x409, 0x0001_0002]);
     entry.extend((name.len() as u16 * 4 + 1).to_le_bytes());
     entry.extend(name);
@@ -641,7 +641,7 @@ fn chains(with_table: bool) -> Library {
 }
 
 /// A name's entry.
-fn name_entry(hreftype: u32, name: &[u8]) -> Vec<u8> {
+pub fn name_entry(hreftype: u32, name: &[u8]) -> Vec<u8> {
     let mut entry = words(&[hreftype, 0x8000_0001]);
     entry.extend([name.len() as u8, 0x20, 0xCD, 0xAB]);
     entry.extend(name);

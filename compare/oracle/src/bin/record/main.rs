@@ -1,11 +1,13 @@
 //! Records what the reference answers to every method of every kind of record, and to every reading
 //! of a library.
 //!
-//! `record` writes `crates/replay/data/records` and `data/libraries`, and `crates/replay/stdout`: what
-//! the replay must print. `record --stats` writes nothing: it prints what the files hold, and fails if
+//! `record` writes `crates/replay/data/records` and `data/libraries`; `data/beside`, questions about libraries
+//! beside other bytes, with document 01's answers; and `crates/replay/stdout`: what the replay must print.
+//! `record --stats` writes nothing: it prints what the files hold, and fails if
 //! a method or a reading is not tried each way or if a file is not the one that would be written.
 //! `file.rs` says what form the files have.
 
+mod beside;
 mod cases;
 mod changed;
 mod edges;
@@ -37,7 +39,8 @@ fn main() -> ExitCode {
     let own = own_libraries();
     let entries = records::entries(&own);
     let libraries = libraries::all(&own);
-    let files = files(&entries, &libraries);
+    let pairs = beside::all();
+    let files = files(&entries, &libraries, &pairs);
     match arguments.as_slice() {
         [] => {
             for (path, bytes) in &files {
@@ -46,7 +49,7 @@ fn main() -> ExitCode {
             }
             ExitCode::SUCCESS
         }
-        [option] if option == "--stats" => stats(&entries, &libraries, &files),
+        [option] if option == "--stats" => stats(&entries, &libraries, &pairs, &files),
         _ => {
             eprintln!("usage: record [--stats]");
             ExitCode::FAILURE
@@ -57,14 +60,22 @@ fn main() -> ExitCode {
 /// A file's path from the project root, and its bytes.
 type File = (String, Vec<u8>);
 
-fn stats(entries: &[records::Entry], libraries: &[libraries::Library], files: &[File]) -> ExitCode {
+fn stats(
+    entries: &[records::Entry],
+    libraries: &[libraries::Library],
+    pairs: &[beside::Pair],
+    files: &[File],
+) -> ExitCode {
     let records = stats::records(entries);
     println!();
     let readings = stats::libraries(libraries);
     println!();
+    let beside = stats::beside(pairs);
+    println!();
     println!("every method of a record tried both ways: {records}");
     println!("every reading of a library tried each way: {readings}");
-    let mut complete = records && readings;
+    println!("a library beside other bytes refused each way: {beside}");
+    let mut complete = records && readings && beside;
     for (path, bytes) in files {
         let same = fs::read(from_project_root(path)).is_ok_and(|there| there == *bytes);
         println!(
@@ -81,20 +92,27 @@ fn stats(entries: &[records::Entry], libraries: &[libraries::Library], files: &[
 }
 
 /// The files to write.
-fn files(entries: &[records::Entry], libraries: &[libraries::Library]) -> Vec<File> {
+fn files(
+    entries: &[records::Entry],
+    libraries: &[libraries::Library],
+    pairs: &[beside::Pair],
+) -> Vec<File> {
     let first = Kind::ALL.len() as u8;
     let of_records = records::items(entries);
     let of_libraries = libraries::items(libraries, first);
+    let of_pairs = beside::items(pairs, first);
     let kinds = Kind::ALL.map(Kind::name);
     let asks: Vec<&str> = Ask::ALL.iter().map(|ask| ask.name()).collect();
     let stdout = file::printed(&of_records, "records", 0, &kinds)
-        + &file::printed(&of_libraries, "libraries", first, &asks);
+        + &file::printed(&of_libraries, "libraries", first, &asks)
+        + &file::printed(&of_pairs, "beside", first, &asks);
     vec![
         (format!("{REPLAY}/data/records"), file::bytes(&of_records)),
         (
             format!("{REPLAY}/data/libraries"),
             file::bytes(&of_libraries),
         ),
+        (format!("{REPLAY}/data/beside"), file::bytes(&of_pairs)),
         (format!("{REPLAY}/stdout"), stdout.into_bytes()),
     ]
 }

@@ -6,6 +6,7 @@ use std::collections::{BTreeMap, HashSet};
 use msft_typelib::library::{Ask, Question};
 use msft_typelib::readings::{Kind, Reading, VALUE};
 
+use crate::beside::Pair;
 use crate::libraries::Library;
 use crate::records::Entry;
 
@@ -293,4 +294,24 @@ pub fn libraries(libraries: &[Library]) -> bool {
         );
     }
     complete & sees_all_cases(libraries)
+}
+
+/// Prints what is asked of libraries beside other bytes. Replies whether each refusal came up that a
+/// reading can give there.
+pub fn beside(pairs: &[Pair]) -> bool {
+    let asked: Vec<_> = pairs.iter().flat_map(|pair| &pair.asked).collect();
+    let mut answers: BTreeMap<u8, usize> = BTreeMap::new();
+    for (_, readings) in &asked {
+        for reading in readings {
+            *answers.entry(reading.answer[0]).or_default() += 1;
+        }
+    }
+    println!(
+        "{} libraries beside other bytes, {} questions, answers by first byte: {answers:?}",
+        pairs.len(),
+        asked.len(),
+    );
+    [VALUE, 6, 7, 8, 9, 10]
+        .iter()
+        .all(|first| answers.contains_key(first))
 }
