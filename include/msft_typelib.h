@@ -15,8 +15,8 @@
    msft_unpack_.. read them back.
 
    Calls that need the library's header, its table of offsets or a segment begin with `parse`, and
-   reply -1 to -5 where the bytes are no library. The others read only the lent bytes, which need be
-   no library, and do not parse: those of a record by its place; msft_funcs, msft_vars and
+   reply -1 to -5 where the bytes are no library. The others read only the lent bytes, if they take any;
+   these need be no library, and are not parsed: those of a record by its place; msft_funcs, msft_vars and
    msft_params, which are a typeinfo's or a function's own cursors; every step but
    msft_typeinfo_step; msft_walk; and a member's identifier and the offset of its name,
    msft_func_memid, msft_var_memid, msft_func_name_offset and msft_var_name_offset. They reply -1
@@ -671,7 +671,7 @@ int64_t msft_imp_files(const uint8_t *lib, size_t lib_len, uint8_t *out, size_t 
 /* The entries of the name table. Writes a cursor (24 bytes); -1 to -5, -12. */
 int64_t msft_names(const uint8_t *lib, size_t lib_len, uint8_t *out, size_t out_len);
 
-/* The cursor over the types that `ti` implements, at the first. Writes a chain cursor (20
+/* The cursor over the types that a typeinfo implements, at the first. Writes a chain cursor (20
    bytes); -1 to -5, -9, -12. */
 int64_t msft_impl_types(
     const uint8_t *lib, size_t lib_len, size_t at, size_t len, uint8_t *out, size_t out_len);

@@ -56,7 +56,7 @@ pub fn const_value(lib: TypeLib, s: &[u8], word: i32) -> ConstAnswer
     const_at(&lib.numbers, s, util::unsigned32(word))
 }
 
-// The same by the word's 32-bit pattern.
+// The same by the word's 32-bit pattern, the library's numbers lent: it serves the sheet.
 pub fn const_at(lib: &Numbers, s: &[u8], word: u32) -> ConstAnswer
     ensures { λ r. ⌜ toldConst r ≡ constAt (now (s .entry)) (library (now (lib .entry))) word ⌝ }
 {

@@ -231,7 +231,7 @@ fn record_at(s: &[u8], pos: usize, end: usize, remaining: usize, least: usize) -
     UsizeAnswer::Value(size)
 }
 
-// The record of `size` bytes at `pos`: the one test of the records of one size.
+// The record of `size` bytes at `pos`: the one test of the records of one size. It serves the cursors over tables, too.
 pub fn fixed_at(s: &[u8], pos: usize, end: usize, size: usize) -> PlaceAnswer
     ensures { λ r. ⌜ toldPlace r ≡ lent (now (s .entry)) (fixedAt (now (s .entry)) pos end size) ⌝ }
 {

@@ -3,7 +3,7 @@
 use mathlib.Core.Path.{_≡_, refl}
 use Rattle.util.specs.Read.{le, read}
 use Rattle.records.specs.Answer.{value}
-use Rattle.describe.specs.WorkedCases.{library}
+use Rattle.describe.specs.WorkedCases.{zeros}
 use Rattle.typelib.specs.Header.{libraryOf, parseOf}
 use Rattle.typelib.specs.Tables.{lent, segmentPlace, segmentOf}
 use Rattle.typelib.specs.Tabulate.{tabulate}
@@ -15,6 +15,6 @@ use Rattle.describe.specs.Members.{nameOf}
 use Rattle.describe.specs.Types.{typesFrom}
 use Rattle.describe.specs.Describe.{headerOf, describeAs, describe}
 
-pub smallest-described : describe edition-one (library 324) ≡ value smallest
+pub smallest-described : describe edition-one (zeros 324) ≡ value smallest
 unfolding describe describeAs headerOf typesFrom all guidOf nameOf parseOf libraryOf tabulate segmentOf segmentPlace lent le read
 smallest-described = refl

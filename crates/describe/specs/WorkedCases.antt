@@ -36,26 +36,26 @@ abbrev pub _gives_ : Reply → Reply → Row
 d gives e = record { defined = d; said = e }
 
 -- n bytes, zero but for the magic
-abbrev pub library : ℕ → List ℕ
-library n = take n (0x4d ∷ 0x53 ∷ 0x46 ∷ 0x54 ∷ replicate (n - 4) 0)
+abbrev pub zeros : ℕ → List ℕ
+zeros n = take n (0x4d ∷ 0x53 ∷ 0x46 ∷ 0x54 ∷ replicate (n - 4) 0)
 
 abbrev pub parsing : List ℕ → Reply
 parsing s = parse (parsed (parseOf s) .number)
 
 -- over the smallest library
 abbrev pub inlined : ℕ → Reply
-inlined word = constant (constAt (library 324) (libraryOf (library 324)) word)
+inlined word = constant (constAt (zeros 324) (libraryOf (zeros 324)) word)
 
 -- over the smallest library of two types
 abbrev pub two : List ℕ
-two = set (library 332) 32 2
+two = set (zeros 332) 32 2
 
 abbrev pub referred : ℕ → Reply
 referred href = reference (hrefResolved two (libraryOf two) href)
 
 -- a library whose segment 5 is its last sixteen bytes, and what the library of `own` finds beside `s`
 abbrev pub withGuid : List ℕ
-withGuid = set (set (set (library 340) 164 0x44) 165 0x01) 168 16
+withGuid = set (set (set (zeros 340) 164 0x44) 165 0x01) 168 16
 
 abbrev pub guidBeside : List ℕ → List ℕ → Reply
 guidBeside own s = lies (guidPlace s (libraryOf own) 0)
@@ -65,11 +65,14 @@ typeinfoBeside own s = lies (typeinfoOf s (libraryOf own) 1)
 
 abbrev pub rows : List Row
 rows =
-    (parsing (library 83) gives parse 2)
-    ∷ (parsing (library 84) gives parse 5)
-    ∷ (parsing (library 324) gives parse 0)
-    ∷ (parsing (library 323) gives parse 5)
-    ∷ (parsing (set (set (set (set (library 324) 32 255) 33 255) 34 255) 35 255) gives parse 4)
+    (parsing (zeros 83) gives parse 2)
+    ∷ (parsing (zeros 84) gives parse 5)
+    ∷ (parsing (zeros 324) gives parse 0)
+    ∷ (parsing (zeros 323) gives parse 5)
+    ∷ (parsing (zeros 332) gives parse 0)
+    ∷ (parsing two gives parse 0)
+    ∷ (parsing withGuid gives parse 0)
+    ∷ (parsing (set (set (set (set (zeros 324) 32 255) 33 255) 34 255) 35 255) gives parse 4)
     ∷ (inlined 0x80000000 gives constant (value const.Empty))
     ∷ (inlined 0x8800ffff gives constant (value (const.I2 (negsuc 0))))
     ∷ (inlined 0x8c00ffff gives constant (value (const.I4 (pos 65535))))
@@ -79,12 +82,12 @@ rows =
     ∷ (referred 100 gives reference (value (internal 1)))
     ∷ (referred 200 gives reference (refused 9))
     ∷ (guidBeside withGuid withGuid gives lies (value (record { at = 324; len = 16 })))
-    ∷ (guidBeside withGuid (library 340) gives lies (value (record { at = 324; len = 16 })))
-    ∷ (guidBeside withGuid (library 339) gives lies (refused 9))
-    ∷ (guidBeside (library 340) withGuid gives lies (refused 9))
-    ∷ (typeinfoBeside two (library 332) gives lies (refused 7))
-    ∷ (typeinfoBeside two (library 91) gives lies (refused 6))
-    ∷ (typeinfoBeside (library 332) two gives lies (refused 6))
+    ∷ (guidBeside withGuid (zeros 340) gives lies (value (record { at = 324; len = 16 })))
+    ∷ (guidBeside withGuid (zeros 339) gives lies (refused 9))
+    ∷ (guidBeside (zeros 340) withGuid gives lies (refused 9))
+    ∷ (typeinfoBeside two (zeros 332) gives lies (refused 7))
+    ∷ (typeinfoBeside two (zeros 91) gives lies (refused 6))
+    ∷ (typeinfoBeside (zeros 332) two gives lies (refused 6))
     ∷ []
 
 pub edges : map (λ (r : Row). r .defined) rows ≡ map (λ (r : Row). r .said) rows

@@ -17,7 +17,7 @@ ghost use Rattle.util.specs.Read.{read, orZero};
 ghost use Rattle.records.specs.Answer.{value, refused};
 ghost use Rattle.records.specs.Record.{partOf};
 ghost use Rattle.description.specs.Format.{leBytes};
-ghost use Rattle.emit.specs.Emit.{Emitted, Overwritten, TriedShort, put, past};
+ghost use Rattle.emit.specs.Emit.{Emitted, Overwritten, TriedShort, put, past, Emits};
 
 // No place is past this, one more than the most bytes that a sheet has. A number past it is a refusal: 0 is the next, and so on.
 pub const PAST: usize = 16_777_217;
@@ -44,7 +44,7 @@ pub fn put_refusal(to: usize, number: u8) -> usize
 }
 
 pub fn put_u8(out: &mut [u8], to: usize, b: u8) -> usize
-    ensures { λ r. ⌜ Emitted (value (b ∷ [])) (put to) (now (out .entry)) (put r) (now (out .exit)) ⌝ }
+    ensures { λ r. ⌜ Emits (value (b ∷ [])) to (now (out .entry)) r (now (out .exit)) ⌝ }
 {
     if to >= PAST {
         return to;
@@ -75,7 +75,7 @@ fn store_le(out: &mut [u8], at: usize, v: u64, width: usize)
 
 // The lowest `width` bytes of `v`, the lowest first.
 pub fn put_le(out: &mut [u8], to: usize, v: u64, width: usize) -> usize
-    ensures { λ r. ⌜ Emitted (value (leBytes width v)) (put to) (now (out .entry)) (put r) (now (out .exit)) ⌝ }
+    ensures { λ r. ⌜ Emits (value (leBytes width v)) to (now (out .entry)) r (now (out .exit)) ⌝ }
 {
     if PAST < width {
         return stopped(to);
@@ -92,13 +92,13 @@ pub fn put_le(out: &mut [u8], to: usize, v: u64, width: usize) -> usize
 }
 
 pub fn put_u16(out: &mut [u8], to: usize, v: u16) -> usize
-    ensures { λ r. ⌜ Emitted (value (leBytes 2 v)) (put to) (now (out .entry)) (put r) (now (out .exit)) ⌝ }
+    ensures { λ r. ⌜ Emits (value (leBytes 2 v)) to (now (out .entry)) r (now (out .exit)) ⌝ }
 {
     put_le(out, to, v as u64, 2)
 }
 
 pub fn put_u32(out: &mut [u8], to: usize, v: u32) -> usize
-    ensures { λ r. ⌜ Emitted (value (leBytes 4 v)) (put to) (now (out .entry)) (put r) (now (out .exit)) ⌝ }
+    ensures { λ r. ⌜ Emits (value (leBytes 4 v)) to (now (out .entry)) r (now (out .exit)) ⌝ }
 {
     put_le(out, to, v as u64, 4)
 }
@@ -154,7 +154,7 @@ fn store(bytes: &[u8], out: &mut [u8], at: usize)
 }
 
 pub fn put_bytes(bytes: &[u8], out: &mut [u8], to: usize) -> usize
-    ensures { λ r. ⌜ Emitted (value (now (bytes .entry))) (put to) (now (out .entry)) (put r) (now (out .exit)) ⌝ }
+    ensures { λ r. ⌜ Emits (value (now (bytes .entry))) to (now (out .entry)) r (now (out .exit)) ⌝ }
 {
     let count = bytes.len();
     if PAST < count {
@@ -187,7 +187,7 @@ fn has_room(end: usize, at: usize, count: usize) -> bool
 // The bytes at a place of the library; none where it is not wholly inside. (Most are names, and short. How many bytes a short one has
 // is not looked at: as many as the longest has are stored, and the next emitter goes over those that are too many.)
 pub fn put_part(s: &[u8], place: Place, out: &mut [u8], to: usize) -> usize
-    ensures { λ r. ⌜ Emitted (value (partOf (now (s .entry)) (value place))) (put to) (now (out .entry)) (put r) (now (out .exit)) ⌝ }
+    ensures { λ r. ⌜ Emits (value (partOf (now (s .entry)) (value place))) to (now (out .entry)) r (now (out .exit)) ⌝ }
 {
     let at = place.at;
     if place.len <= SHORT {
@@ -262,7 +262,7 @@ pub fn word_at(s: &[u8], at: usize, offset: u32) -> u32
 }
 
 pub fn copy_u32(s: &[u8], at: usize, offset: u32, out: &mut [u8], to: usize) -> usize
-    ensures { λ r. ⌜ Emitted (value (leBytes 4 (orZero (read 4 (now (s .entry)) (at + offset))))) (put to) (now (out .entry)) (put r) (now (out .exit)) ⌝ }
+    ensures { λ r. ⌜ Emits (value (leBytes 4 (orZero (read 4 (now (s .entry)) (at + offset))))) to (now (out .entry)) r (now (out .exit)) ⌝ }
 {
     put_u32(out, to, word_at(s, at, offset))
 }

@@ -51,7 +51,7 @@ pub fn impl_types(lib: TypeLib, s: &[u8], ti: TypeInfoEntry) -> ImplTypesAnswer
     impl_types_at(&lib.numbers, s, ti)
 }
 
-// The same, the library's numbers lent.
+// The same, the library's numbers lent: it serves the sheet.
 pub fn impl_types_at(lib: &Numbers, s: &[u8], ti: TypeInfoEntry) -> ImplTypesAnswer
     ensures { λ r. ⌜ toldImplTypes r ≡ implTypesOf (now (s .entry)) (library (now (lib .entry))) ti ⌝ }
 {

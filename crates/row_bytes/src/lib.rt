@@ -16,13 +16,13 @@ ghost use Rattle.records.specs.Told.{toldPlace};
 ghost use Rattle.typelib.specs.Told.{toldImpFile};
 ghost use Rattle.typelib.specs.References.{external};
 ghost use Rattle.describe.specs.Constants.{numberIn, placeIn};
-ghost use Rattle.emit.specs.Emit.{Emitted, put};
 ghost use Rattle.sheet_constants.specs.Told.{toldContent, toldShape};
 ghost use Rattle.rows.specs.Told.{numbersOf, toldRow};
 ghost use Rattle.rows.specs.Values.{eights, place, optPlace, reference, span, contentBytes, constant, nameEntry, nameNumbers, cursor};
+ghost use Rattle.emit.specs.Emit.{Emits};
 
 fn put_longs(out: &mut [u8], to: usize, l: Longs) -> usize
-    ensures { λ r. ⌜ Emitted (value (eights (numbersOf l))) (put to) (now (out .entry)) (put r) (now (out .exit)) ⌝ }
+    ensures { λ r. ⌜ Emits (value (eights (numbersOf l))) to (now (out .entry)) r (now (out .exit)) ⌝ }
 {
     match l {
         Longs::One(a) => emit::put_le(out, to, a, 8),
@@ -44,21 +44,21 @@ fn put_longs(out: &mut [u8], to: usize, l: Longs) -> usize
 }
 
 fn put_two(out: &mut [u8], to: usize, a: u64, b: u64) -> usize
-    ensures { λ r. ⌜ Emitted (value (eights (a ∷ b ∷ []))) (put to) (now (out .entry)) (put r) (now (out .exit)) ⌝ }
+    ensures { λ r. ⌜ Emits (value (eights (a ∷ b ∷ []))) to (now (out .entry)) r (now (out .exit)) ⌝ }
 {
     let t = emit::put_le(out, to, a, 8);
     emit::put_le(out, t, b, 8)
 }
 
 fn put_place(out: &mut [u8], to: usize, p: Place) -> usize
-    ensures { λ r. ⌜ Emitted (value (place p)) (put to) (now (out .entry)) (put r) (now (out .exit)) ⌝ }
+    ensures { λ r. ⌜ Emits (value (place p)) to (now (out .entry)) r (now (out .exit)) ⌝ }
 {
     put_two(out, to, p.at as u64, p.len as u64)
 }
 
 // 0, or 1 and the place.
 fn put_opt_place(out: &mut [u8], to: usize, a: PlaceAnswer) -> usize
-    ensures { λ r. ⌜ Emitted (value (optPlace (toldPlace a))) (put to) (now (out .entry)) (put r) (now (out .exit)) ⌝ }
+    ensures { λ r. ⌜ Emits (value (optPlace (toldPlace a))) to (now (out .entry)) r (now (out .exit)) ⌝ }
 {
     match a {
         PlaceAnswer::Value(p) => {
@@ -71,7 +71,7 @@ fn put_opt_place(out: &mut [u8], to: usize, a: PlaceAnswer) -> usize
 
 // The record of an import, and the file that it names.
 fn put_import(out: &mut [u8], to: usize, info: Place, file: ImpFileAnswer) -> usize
-    ensures { λ r. ⌜ Emitted (value (reference (external info (toldImpFile file)))) (put to) (now (out .entry)) (put r) (now (out .exit)) ⌝ }
+    ensures { λ r. ⌜ Emits (value (reference (external info (toldImpFile file)))) to (now (out .entry)) r (now (out .exit)) ⌝ }
 {
     let t = emit::put_u8(out, to, 2);
     let t = put_place(out, t, info);
@@ -114,7 +114,7 @@ fn place_in(content: Content) -> PlaceAnswer
 
 // The place where there is one.
 fn put_span(out: &mut [u8], to: usize, a: PlaceAnswer) -> usize
-    ensures { λ r. ⌜ Emitted (value (span (toldPlace a))) (put to) (now (out .entry)) (put r) (now (out .exit)) ⌝ }
+    ensures { λ r. ⌜ Emits (value (span (toldPlace a))) to (now (out .entry)) r (now (out .exit)) ⌝ }
 {
     match a {
         PlaceAnswer::Value(p) => put_place(out, to, p),
@@ -124,7 +124,7 @@ fn put_span(out: &mut [u8], to: usize, a: PlaceAnswer) -> usize
 
 // A constant's value, by the shape that its code has.
 fn put_content(out: &mut [u8], to: usize, shape: Shape, content: Content) -> usize
-    ensures { λ r. ⌜ Emitted (value (contentBytes (toldShape shape) (toldContent content))) (put to) (now (out .entry)) (put r) (now (out .exit)) ⌝ }
+    ensures { λ r. ⌜ Emits (value (contentBytes (toldShape shape) (toldContent content))) to (now (out .entry)) r (now (out .exit)) ⌝ }
 {
     match shape {
         Shape::Empty => to,
@@ -136,7 +136,7 @@ fn put_content(out: &mut [u8], to: usize, shape: Shape, content: Content) -> usi
 }
 
 fn put_constant(out: &mut [u8], to: usize, v: ConstValue) -> usize
-    ensures { λ r. ⌜ Emitted (value (constant v)) (put to) (now (out .entry)) (put r) (now (out .exit)) ⌝ }
+    ensures { λ r. ⌜ Emits (value (constant v)) to (now (out .entry)) r (now (out .exit)) ⌝ }
 {
     let code = v.vt();
     let t = emit::put_u16(out, to, code);
@@ -149,7 +149,7 @@ fn put_constant(out: &mut [u8], to: usize, v: ConstValue) -> usize
 }
 
 fn put_entry(out: &mut [u8], to: usize, e: NameEntry) -> usize
-    ensures { λ r. ⌜ Emitted (value (nameEntry e)) (put to) (now (out .entry)) (put r) (now (out .exit)) ⌝ }
+    ensures { λ r. ⌜ Emits (value (nameEntry e)) to (now (out .entry)) r (now (out .exit)) ⌝ }
 {
     let text = e.text;
     let t = put_longs(
@@ -165,7 +165,7 @@ fn put_entry(out: &mut [u8], to: usize, e: NameEntry) -> usize
 
 // The entry, and the cursor behind it.
 fn put_name_step(out: &mut [u8], to: usize, e: NameEntry, c: NameCursor) -> usize
-    ensures { λ r. ⌜ Emitted (value (nameEntry e ++ cursor nameNumbers c)) (put to) (now (out .entry)) (put r) (now (out .exit)) ⌝ }
+    ensures { λ r. ⌜ Emits (value (nameEntry e ++ cursor nameNumbers c)) to (now (out .entry)) r (now (out .exit)) ⌝ }
 {
     let t = put_entry(out, to, e);
     put_longs(
@@ -177,7 +177,7 @@ fn put_name_step(out: &mut [u8], to: usize, e: NameEntry, c: NameCursor) -> usiz
 
 // The bytes of a row, or its refusal.
 pub fn put_row(out: &mut [u8], to: usize, row: Row) -> usize
-    ensures { λ r. ⌜ Emitted (toldRow row) (put to) (now (out .entry)) (put r) (now (out .exit)) ⌝ }
+    ensures { λ r. ⌜ Emits (toldRow row) to (now (out .entry)) r (now (out .exit)) ⌝ }
 {
     match row {
         Row::Plain(l) => put_longs(out, to, l),

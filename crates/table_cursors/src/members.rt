@@ -10,7 +10,6 @@ use typelib::TypeLib;
 use typelib::tables;
 use typelib::typeinfos::OffsetAnswer;
 ghost use mathlib.Core.Path.{_≡_};
-ghost use Prim.Native.Nat.{suc};
 ghost use lib.ListN.{length};
 ghost use Rattle.records.specs.Told.{toldPlace};
 ghost use Rattle.table_cursors.specs.Members.{matching, behind, memberName};

@@ -23,9 +23,13 @@ impFileAt s lib offset =
 abbrev pub inThisFile : ℕ → Bool
 inThisFile h = eqb (h % 4) 0
 
--- MSFT_HREFTYPE_INDEX, in a library of `count` typeinfos: divided by the size of a typeinfo; nothing where there are not so many
+-- MSFT_HREFTYPE_INDEX: the index of the typeinfo at a byte offset, divided by the size of a typeinfo
+abbrev pub indexOf : ℕ → ℕ
+indexOf offset = offset / sizeOf typeInfoBase
+
+-- the same in a library of `count` typeinfos; nothing where there are not so many
 unfoldable pub internalIndex : ℕ → ℕ → Answer ℕ
-internalIndex count h = cond (ltb (h / sizeOf typeInfoBase) count) (value (h / sizeOf typeInfoBase)) (refused 9)
+internalIndex count offset = cond (ltb (indexOf offset) count) (value (indexOf offset)) (refused 9)
 
 -- an internal reference, as it stands
 unfoldable pub hrefIndex : TypeLib → ℕ → Answer ℕ

@@ -62,9 +62,6 @@ blockAt s memoffset =
     cond (negative memoffset) (refused 9)
     (map (λ size. record { at = memoffset + 4; len = size }) (orNine (read 4 s memoffset)))
 
-abbrev pub blockOf : List ℕ → TypeInfoEntry → Answer Place
-blockOf s ti = bind (ofTypeInfo "memoffset" s ti) (blockAt s)
-
 -- ---- the arrays behind the block
 
 -- word k behind the block

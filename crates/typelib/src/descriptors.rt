@@ -1,4 +1,5 @@
-// Type descriptors and array descriptors, by their offset in a table.
+// Type descriptors and array descriptors, by their offset in a table. What stands outside `impl TypeLib` serves this crate and those
+// above it.
 use crate::Numbers;
 use crate::TypeLib;
 use crate::tables;
@@ -64,7 +65,7 @@ impl TypeLib {
     }
 }
 
-// The same by the 32-bit pattern of its offset.
+// `type_desc` by the 32-bit pattern of its offset, the library's numbers lent.
 pub fn type_desc_at(lib: &Numbers, s: &[u8], offset: u32) -> PairAnswer
     ensures { λ r. ⌜ toldPair r ≡ typeDescAt (now (s .entry)) (library (now (lib .entry))) offset ⌝ }
 {
@@ -79,7 +80,7 @@ pub fn type_desc_at(lib: &Numbers, s: &[u8], offset: u32) -> PairAnswer
     }
 }
 
-// The same by the 32-bit pattern of its offset.
+// `array_desc` by the 32-bit pattern of its offset, the library's numbers lent.
 pub fn array_desc_at(lib: &Numbers, s: &[u8], offset: u32) -> ArrayDescAnswer
     ensures { λ r. ⌜ toldArrayDesc r ≡ arrayDescAt (now (s .entry)) (library (now (lib .entry))) offset ⌝ }
 {

@@ -1,7 +1,7 @@
 // Names, strings and GUIDs, by their offset in a table.
 //
 // A public reading takes the offset as the signed number that a record holds; the `_at` functions
-// take its 32-bit pattern, and the library's numbers lent.
+// take its 32-bit pattern, and the library's numbers lent: they serve this crate and those above it.
 use crate::Numbers;
 use crate::TypeLib;
 use crate::tables;

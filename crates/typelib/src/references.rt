@@ -1,4 +1,4 @@
-// Import files, and what an hreftype refers to.
+// Import files, and what an hreftype refers to. What stands outside `impl TypeLib` serves this crate and those above it.
 use crate::ImportOffset;
 use crate::Numbers;
 use crate::TypeInfoIndex;
@@ -11,11 +11,10 @@ use records::impfile::ImpFile;
 use records::impinfo::ImpInfo;
 use util::NEGATIVE;
 ghost use mathlib.Core.Path.{_≡_};
-ghost use Prim.Native.Nat.{_/_};
 ghost use mir.Syntax.{w32};
 ghost use mir.Val.{ofZ};
 ghost use Rattle.typelib.specs.Header.{library, typeCount};
-ghost use Rattle.typelib.specs.References.{impFileAt, internalIndex, hrefIndex, importAt, resolvedAt, cleared, hrefResolved};
+ghost use Rattle.typelib.specs.References.{impFileAt, indexOf, internalIndex, hrefIndex, importAt, resolvedAt, cleared, hrefResolved};
 ghost use Rattle.typelib.specs.Told.{toldImpFile, toldIndex, toldResolved};
 
 const IMPORT_TABLE: usize = 1;
@@ -103,7 +102,7 @@ pub fn imp_file_at(lib: &Numbers, s: &[u8], offset: u32) -> ImpFileAnswer
 
 // The index of the typeinfo at a byte offset: typeinfos stand every 100 bytes.
 pub fn index_of(offset: TypeInfoOffset) -> TypeInfoIndex
-    ensures { λ r. ⌜ r .0 ≡ offset .0 / 100 ⌝ }
+    ensures { λ r. ⌜ r .0 ≡ indexOf (offset .0) ⌝ }
 {
     TypeInfoIndex((offset.0 / 100) as usize)
 }

@@ -1,12 +1,11 @@
-// Typeinfos, and the arrays of member identifiers and name offsets behind their members' records.
+// Typeinfos, and the arrays of member identifiers and name offsets behind their members' records. What stands outside `impl TypeLib`
+// serves this crate and those above it.
 use crate::Numbers;
 use crate::TypeInfoIndex;
 use crate::TypeInfoOffset;
 use crate::TypeLib;
 use crate::tables;
-use records::answer;
 use records::answer::I32Answer;
-use records::answer::Place;
 use records::answer::PlaceAnswer;
 use records::answer::U16Answer;
 use records::answer::U32Answer;
