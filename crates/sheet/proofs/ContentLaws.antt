@@ -42,7 +42,7 @@ header-is s lib {g} {n} e f = rw (e, f)
 
 pub unpatched : (from end : ℕ) {at : ℕ} {o : List ℕ} → ((p q : ℕ) → put from ≡ At p → put end ≡ At q → p ≤ q → ⊥) → Patched (put from) (put end) at o o
 unfolding distanced
-unpatched from end {at} {o} h = record { puts = by (put from) (put end) refl refl; keeps = refl }
+unpatched from end {at} {o} h = record { puts = by (put from) (put end) refl refl }
   where
     by : (t u : Put) → put from ≡ t → put end ≡ u → o ≡ distanced t u at o
     by (At p) (At q) e g = cond-elim (λ z. o ≡ z) (leb p q) (overwritten (leBytes 4 (q - p)) (put at) o) o (λ k. absurd (h p q e g (leb-true p q k))) (λ _. refl)
@@ -56,7 +56,7 @@ pub patched : (from end at : ℕ) {o o′ : List ℕ} → from ≤ end → end �
 unfolding distanced
 patched from end at h k w =
     let f : from ≤ past = omega arith in
-    record { puts = rw (put-at from f, put-at end k, le-leb from end h) (w .over); keeps = over-keeps (put at) w }
+    record { puts = rw (put-at from f, put-at end k, le-leb from end h) (w .over) }
 
 -- it stands there where there is room
 puts-room : (p q at : ℕ) {o o′ : List ℕ} → Patched (At p) (At q) at o o′ → p ≤ q → at + 4 ≤ limit → at + 4 ≤ length o → o′ ≡ sets o at (leBytes 4 (q - p))
@@ -65,6 +65,15 @@ puts-room p q at {o} {o′} f h k l =
     let m : at ≤ past = omega arith in
     let w : Overwritten (leBytes 4 (q - p)) (At at) o o′ = record { over = rw (le-leb p q h, put-at at m) at (f .puts) } in
     over-room w (omega (arith, l, length-leBytes 4 (q - p)))
+
+-- it leaves the output as long as it was
+pub patch-keeps : (t u : Put) {c : ℕ} {o o′ : List ℕ} → Patched t u c o o′ → length o′ ≡ length o
+unfolding distanced
+patch-keeps (At p) (At q) {c} {o} f =
+    ap length (f .puts)
+    ∙ cond-elim (λ z. length z ≡ length o) (leb p q) (overwritten (leBytes 4 (q - p)) (put c) o) o (λ _. over-keeps (put c) (record { over = refl })) (λ _. refl)
+patch-keeps (At p) (Refused m) f = ap length (f .puts)
+patch-keeps (Refused m) u f = ap length (f .puts)
 
 -- what stands before it is spared
 patch-spares : (t u : Put) (n c : ℕ) {o o′ : List ℕ} → n ≤ c → Patched t u c o o′ → take n o′ ≡ take n o
@@ -123,7 +132,7 @@ module _ {c : ℕ} {u : Put} {o o₁ o₂ : List ℕ} (o₃ : List ℕ) where
       let l₁ : take (p + length b) o₁ ≡ take p o ++ b = a .lays (omega arith) (omega arith) in
       let n₁ : length o₁ ≡ length o = a .keeps in
       let l₂ : o₂ ≡ sets o₁ c (leBytes 4 (length b)) = rw q at (puts-room p (p + length b) c (rw e at f) (omega arith) (omega arith) (omega (arith, n₁))) in
-      let n₂ : length o₂ ≡ length o₁ = f .keeps in
+      let n₂ : length o₂ ≡ length o₁ = patch-keeps (At p) u f in
       let l₃ : take (p + length b + length bs) o₃ ≡ take (p + length b) (sets o₂ (c + 4) ks) ++ bs = (rw e at w) (omega arith) (omega arith) (omega (arith, n₁, n₂)) in
       let r : p + length (b ++ bs) ≡ p + length b + length bs = omega (arith, length-append b bs) in
       ap (λ n. take n o₃) r
@@ -149,7 +158,7 @@ two-more {x} {ls} {xs} {c} {t} {u} {r} {o} {o₁} {o₂} {o₃} a b w =
       moves = w .moves ∙ ap (λ (v : Put). moved v xs) (a .moves) ∙ moved-join x xs t;
       lays = lays o₃ x ls xs t a b (w .lays);
       spares = spares o₃ x t a b (w .spares);
-      keeps = w .keeps ∙ b .keeps ∙ a .keeps;
+      keeps = w .keeps ∙ patch-keeps t u b ∙ a .keeps;
     }
 
 -- ---- the loop over the types: what the rest of it makes of the whole

@@ -43,7 +43,6 @@ distanced (Refused m) end at o = o
 
 pub record Patched (from end : Put) (at : ℕ) (o o′ : List ℕ) : Type 0 where
   pub puts : o′ ≡ distanced from end at o
-  pub keeps : length o′ ≡ length o
 
 -- ks were laid from c, and bs from the place; what stands behind bs is left to the emitter
 abbrev pub LaidTwo : Answer Bytes → Answer Bytes → ℕ → Put → List ℕ → List ℕ → Type 0

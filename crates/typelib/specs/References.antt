@@ -23,7 +23,7 @@ impFileAt s lib offset =
 abbrev pub inThisFile : ℕ → Bool
 inThisFile h = eqb (h % 4) 0
 
--- MSFT_HREFTYPE_INDEX: the index of the typeinfo at a byte offset, divided by the size of a typeinfo
+-- MSFT_HREFTYPE_INDEX: a typeinfo's index is its byte offset divided by the size of a typeinfo
 abbrev pub indexOf : ℕ → ℕ
 indexOf offset = offset / sizeOf typeInfoBase
 

@@ -1,6 +1,6 @@
 use mathlib.Core.Path.{_∙_}
 use Rattle.typelib.specs.Header.{library}
-use Rattle.sheet.proofs.ContentLaws.{sheet-whole}
+use Rattle.sheet.proofs.ContentLaws.{patch-keeps, sheet-whole}
 use borrow.Author.Needs.{needs}
 use Rattle.sheet.proofs.contents.put_sheet.Statement.{statement}
 use Rattle.sheet.proofs.contents.put_sheet.Tie as tie
@@ -36,7 +36,7 @@ same-length : tie.Need-same-length
 same-length c = search needs
 
 returns : tie.Need-returns
-returns c = let e = c .before .before .put-types .ensures in let w = sheet-whole _ (library (c .before .before .before .before .before .before .before .before .before .before .before .before .before .before .before .before .before .before .before .args .lib .now)) (c .before .before .before .before .before .before .before .before .before .before .before .before .before .before .before .before .count .ensures) (c .before .before .before .before .before .before .before .before .before .before .before .before .before .before .before .before .before .before .before .pre) (c .before .before .before .before .before .before .before .before .before .before .before .before .before .before .put-le .ensures) (c .before .before .before .before .before .before .before .before .before .before .put-header .ensures) (c .before .before .before .before .before .before .patch .ensures) in record { short = λ f. w (e .short f); endless = λ h. w (e .endless h); keeps = e .keeps ∙ c .before .before .before .before .before .before .patch .ensures .keeps ∙ c .before .before .before .before .before .before .before .before .before .before .put-header .ensures .keeps ∙ c .before .before .before .before .before .before .before .before .before .before .before .before .before .before .put-le .ensures .keeps }
+returns c = let e = c .before .before .put-types .ensures in let w = sheet-whole _ (library (c .before .before .before .before .before .before .before .before .before .before .before .before .before .before .before .before .before .before .before .args .lib .now)) (c .before .before .before .before .before .before .before .before .before .before .before .before .before .before .before .before .count .ensures) (c .before .before .before .before .before .before .before .before .before .before .before .before .before .before .before .before .before .before .before .pre) (c .before .before .before .before .before .before .before .before .before .before .before .before .before .before .put-le .ensures) (c .before .before .before .before .before .before .before .before .before .before .put-header .ensures) (c .before .before .before .before .before .before .patch .ensures) in record { short = λ f. w (e .short f); endless = λ h. w (e .endless h); keeps = e .keeps ∙ patch-keeps _ _ (c .before .before .before .before .before .before .patch .ensures) ∙ c .before .before .before .before .before .before .before .before .before .before .put-header .ensures .keeps ∙ c .before .before .before .before .before .before .before .before .before .before .before .before .before .before .put-le .ensures .keeps }
 
 pub put-sheet-spec : {M : Type 1} → statement M
 put-sheet-spec =

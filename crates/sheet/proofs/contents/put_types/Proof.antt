@@ -6,7 +6,7 @@ use Prim.Native.Nat.{_-_}
 use mathlib.Core.Path.{_≡_, refl, sym, _∙_}
 use native.Mathlib.Numerals.{lt-of-le-of-ne}
 use Rattle.emit.specs.Emit.{put}
-use Rattle.sheet.proofs.ContentLaws.{LeftFrom, types-start, types-less, types-none, types-refused}
+use Rattle.sheet.proofs.ContentLaws.{patch-keeps, LeftFrom, types-start, types-less, types-none, types-refused}
 use Rattle.sheet.proofs.contents.put_types.Statement.{statement}
 use Rattle.sheet.proofs.contents.put_types.Tie as tie
 
@@ -56,7 +56,7 @@ loop-less : tie.Need-loop-less Inv-loop μ-loop
 loop-less c = omega arith
 
 loop-again : tie.Need-loop-again Inv-loop μ-loop
-loop-again c = (types-less (c .before .before .before .before .before .before .before .before .before .before .before .before .before .before .args .s .now) (library (c .before .before .before .before .before .before .before .before .before .before .before .before .before .before .args .lib .now)) _ _ (omega (arith, c .before .before .before .before .before .before .before .before .before .loop-test .taken, c .before .before .before .before .before .before .before .before .before .before .loop .inv .1)) (c .before .before .before .before .before .before .before .before .before .before .loop .inv .0) (c .before .before .before .before .before .before .put-type-of .ensures) (c .before .before .patch .ensures), c .before .before .before .before .before .before .before .before .before .before .loop .inv .1, c .before .before .patch .ensures .keeps ∙ c .before .before .before .before .before .before .put-type-of .ensures .keeps ∙ c .before .before .before .before .before .before .before .before .before .before .loop .inv .2)
+loop-again c = (types-less (c .before .before .before .before .before .before .before .before .before .before .before .before .before .before .args .s .now) (library (c .before .before .before .before .before .before .before .before .before .before .before .before .before .before .args .lib .now)) _ _ (omega (arith, c .before .before .before .before .before .before .before .before .before .loop-test .taken, c .before .before .before .before .before .before .before .before .before .before .loop .inv .1)) (c .before .before .before .before .before .before .before .before .before .before .loop .inv .0) (c .before .before .before .before .before .before .put-type-of .ensures) (c .before .before .patch .ensures), c .before .before .before .before .before .before .before .before .before .before .loop .inv .1, patch-keeps _ _ (c .before .before .patch .ensures) ∙ c .before .before .before .before .before .before .put-type-of .ensures .keeps ∙ c .before .before .before .before .before .before .before .before .before .before .loop .inv .2)
 
 same-length-3 : tie.Need-same-length-3 Inv-loop μ-loop
 same-length-3 c = c .before .loop .inv .2
