@@ -1,5 +1,7 @@
-/* tlb check: whether a library is read, and if not, what is refused and where. */
+/* tlb check: whether a library is read, with what it names outside its tables, and if not, what is refused
+   and where. */
 #include "commands.h"
+#include "outside.h"
 #include "spell.h"
 
 #include <stdio.h>
@@ -150,8 +152,10 @@ int check_command(const char *path)
         return TROUBLE;
     int64_t reply = make_sheet(&l, &s);
     int status = reply == INT64_MIN ? TROUBLE : reply < 0 ? REFUSED : DONE;
-    if (status == DONE)
+    if (status == DONE) {
         say_read(&l, &s);
+        print_outside(&l);
+    }
     if (status == REFUSED) {
         say_refused(&l, reply);
         say_where(&l, reply);

@@ -103,7 +103,7 @@ static const char *reason(int64_t reply)
     case MSFT_SHORT_DIRECTORY: return "it ends before its last segment entry does";
     case MSFT_NO_SUCH_TYPEINFO: return "the offset of a type is negative";
     case MSFT_NO_TYPEINFO_TABLE: return "it counts types but has no table of them";
-    case MSFT_SHORT_TYPEINFO: return "fewer than 100 bytes are left for a type";
+    case MSFT_SHORT_TYPEINFO: return "fewer than 100 bytes are left for a type in its table or in the file";
     case MSFT_NOTHING_THERE: return "something that must be there is not";
     case MSFT_CIRCLE: return "a chain of implemented interfaces comes round";
     case MSFT_TOO_DEEP: return "a type nests more than 32 descriptions";

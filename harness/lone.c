@@ -4,7 +4,7 @@
 
 #include "msft_typelib.h"
 
-enum { VAR_SIZE = 20, REF_SIZE = 16, PARAM_SIZE = 12, MOST_BYTES = 16777216 };
+enum { VAR_SIZE = 20, REF_SIZE = 16, NAME_SIZE = 16, PARAM_SIZE = 12, MOST_BYTES = 16777216 };
 
 static void say(const char *what, int64_t reply)
 {
@@ -50,6 +50,19 @@ static void chain(void)
     ref[15] = 0xff;
     say("a chain", msft_walk(ref, REF_SIZE, 0, REF_SIZE, 0, out, sizeof out));
     say("its records", (int64_t)msft_unpack_size(out));
+    say("past its table", msft_walk(ref, REF_SIZE, 0, REF_SIZE - 1, 0, out, sizeof out));
+    say("its records", (int64_t)msft_unpack_size(out));
+    say("a record past it", msft_impl_type_step(ref, REF_SIZE, 0, REF_SIZE - 1, 0, out, sizeof out));
+}
+
+/* A name of four bytes behind its intro; its cursor ends with it or a byte before. */
+static void name(void)
+{
+    uint8_t entry[NAME_SIZE] = {0}, out[59];
+    entry[8] = 4;
+    say("a name", msft_name_step(entry, NAME_SIZE, 0, NAME_SIZE, 0, out, sizeof out));
+    say("past its cursor", msft_name_step(entry, NAME_SIZE, 0, NAME_SIZE - 1, 0, out, sizeof out));
+    say("past the bytes", msft_name_step(entry, NAME_SIZE - 1, 0, NAME_SIZE, 0, out, sizeof out));
 }
 
 /* What parses refuses such bytes, and over-long bytes are refused by all. */
@@ -70,5 +83,6 @@ int main(void)
     variable();
     parameters();
     chain();
+    name();
     return refused();
 }

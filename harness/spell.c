@@ -196,8 +196,7 @@ static void put_described(cell *c, const library *l, const msft_description *d, 
     }
 }
 
-/* One level of a type field, if there is one; the field is a reply. */
-static bool describe(const library *l, int64_t field, msft_description *d)
+bool describe(const library *l, int64_t field, msft_description *d)
 {
     uint8_t out[24];
     if (field < 0 || msft_type_description(BYTES(l), msft_i32(field), out, sizeof out) < 0)
@@ -222,8 +221,7 @@ void put_type(cell *c, const library *l, int64_t field)
     put_tree(c, l, field, MOST_LEVELS);
 }
 
-/* The type field inside a description, or minus 1. */
-static int64_t inside(const library *l, const msft_description *d)
+int64_t described(const library *l, const msft_description *d)
 {
     switch (d->code) {
     case MSFT_POINTER:
@@ -243,7 +241,7 @@ int levels_of(const library *l, int64_t field)
     msft_description d;
     int levels = 1;
     while (levels <= MOST_LEVELS && describe(l, field, &d)) {
-        field = inside(l, &d);
+        field = described(l, &d);
         if (field < 0)
             break;
         levels++;

@@ -27,6 +27,12 @@ void put_reference(cell *c, const library *l, int64_t hreftype);
 /* The constant that a word of a record gives. */
 void put_constant(cell *c, const library *l, int64_t word);
 
+/* One level of a type field, if there is one; the field is a reply. */
+bool describe(const library *l, int64_t field, msft_description *d);
+
+/* The type field inside a description, or minus 1. */
+int64_t described(const library *l, const msft_description *d);
+
 /* How many descriptions a type field nests, counted up to one more than allowed. */
 int levels_of(const library *l, int64_t field);
 

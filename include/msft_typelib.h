@@ -23,6 +23,16 @@
    where more than 16,777,216 bytes are lent, and -9 for a record that is not wholly inside them or
    shorter than its fixed part.
 
+   A table is a segment, and what is read by an offset into it ends with it: a name (12 bytes and its
+   text), a string (2 and its text), a GUID (16), a typeinfo (100), a type descriptor (8), an array
+   descriptor (8, and 8 for each dimension), an import record (12), an import file (its entry, filled up
+   to a multiple of four), a reference record (16) and a stored constant (2 bytes of code, its stored
+   width, a text's bytes) lies wholly inside its segment and inside the lent bytes. Else a typeinfo is
+   -8 and any other is -9. These readings do not refuse a segment because it passes the end of the
+   bytes. A cursor over a table has the table's end in its own numbers: what it yields ends by that and by
+   the end of the bytes. Functions, variables, parameters and the words behind their block lie in no
+   segment.
+
    A refusal replies minus its number and writes nothing. The numbers in a comment are all that the
    call has. An output that is too short is -12, which stands behind every other refusal unless the
    comment says otherwise. A place or a cursor that comes back damaged is refused or read as any
@@ -536,19 +546,22 @@ int64_t msft_typeinfo_count(const uint8_t *lib, size_t lib_len);
 int64_t msft_segment(
     const uint8_t *lib, size_t lib_len, size_t index, uint8_t *out, size_t out_len);
 
-/* A name's bytes, in the code page the library was built in. Writes a place (16 bytes); -1 to
-   -5, -9, -12. */
+/* A name's bytes, in the code page the library was built in; its entry ends inside segment 7.
+   Writes a place (16 bytes); -1 to -5, -9, -12. */
 int64_t msft_name_bytes(
     const uint8_t *lib, size_t lib_len, int32_t offset, uint8_t *out, size_t out_len);
 
-/* A name, where it is UTF-8. Writes a place (16 bytes); -1 to -5, -9, -12. */
+/* A name, where it is UTF-8; its entry ends inside segment 7. Writes a place (16 bytes); -1 to
+   -5, -9, -12. */
 int64_t msft_name(const uint8_t *lib, size_t lib_len, int32_t offset, uint8_t *out, size_t out_len);
 
-/* A string of the string table, where it is UTF-8. Writes a place (16 bytes); -1 to -5, -9, -12. */
+/* A string of the string table, where it is UTF-8; it ends inside segment 8. Writes a place (16
+   bytes); -1 to -5, -9, -12. */
 int64_t msft_string(
     const uint8_t *lib, size_t lib_len, int32_t offset, uint8_t *out, size_t out_len);
 
-/* The GUID at an offset of its table. Writes a place (16 bytes); -1 to -5, -9, -12. */
+/* The GUID at an offset of its table; its 16 bytes end inside segment 5. Writes a place (16
+   bytes); -1 to -5, -9, -12. */
 int64_t msft_guid(const uint8_t *lib, size_t lib_len, int32_t offset, uint8_t *out, size_t out_len);
 
 /* The bytes of a segment; 9 where it is missing or passes the file's end. Writes a place (16
@@ -562,20 +575,23 @@ int64_t msft_guid_hash_data(const uint8_t *lib, size_t lib_len, uint8_t *out, si
 /* The hash table of the names. Writes a place (16 bytes); -1 to -5, -9, -12. */
 int64_t msft_name_hash_data(const uint8_t *lib, size_t lib_len, uint8_t *out, size_t out_len);
 
-/* The library's own name, where it is UTF-8. Writes a place (16 bytes); -1 to -5, -9, -12. */
+/* The library's own name, where it is UTF-8, as msft_name reads it. Writes a place (16 bytes);
+   -1 to -5, -9, -12. */
 int64_t msft_lib_name(const uint8_t *lib, size_t lib_len, uint8_t *out, size_t out_len);
 
-/* The library's own GUID. Writes a place (16 bytes); -1 to -5, -9, -12. */
+/* The library's own GUID, as msft_guid reads it. Writes a place (16 bytes); -1 to -5, -9, -12. */
 int64_t msft_lib_guid(const uint8_t *lib, size_t lib_len, uint8_t *out, size_t out_len);
 
-/* The library's help string, where it is UTF-8. Writes a place (16 bytes); -1 to -5, -9, -12. */
+/* The library's help string, where it is UTF-8, as msft_string reads it. Writes a place (16
+   bytes); -1 to -5, -9, -12. */
 int64_t msft_lib_helpstring(const uint8_t *lib, size_t lib_len, uint8_t *out, size_t out_len);
 
 /* ---- typelib: typeinfos, and the identifiers and names of their members ---- */
 /* A typeinfo's byte offset in segment 0. Replies the 32 bits of an i32; -1 to -5, -9. */
 int64_t msft_typeinfo_offset(const uint8_t *lib, size_t lib_len, size_t index);
 
-/* The typeinfo of that index. Writes a place (16 bytes); -1 to -8, -12. */
+/* The typeinfo of that index; 8 where its 100 bytes do not end inside segment 0 and inside the
+   lent bytes. Writes a place (16 bytes); -1 to -8, -12. */
 int64_t msft_typeinfo(
     const uint8_t *lib, size_t lib_len, size_t index, uint8_t *out, size_t out_len);
 
@@ -594,38 +610,42 @@ int64_t msft_func_name_offset(
 int64_t msft_var_name_offset(
     const uint8_t *lib, size_t lib_len, size_t at, size_t len, size_t index);
 
-/* The name of function `index`, where it is UTF-8. Writes a place (16 bytes); -1 to -5, -9, -12. */
+/* The name of function `index`, where it is UTF-8, as msft_name reads it. Writes a place (16
+   bytes); -1 to -5, -9, -12. */
 int64_t msft_func_name(
     const uint8_t *lib, size_t lib_len, size_t at, size_t len, size_t index, uint8_t *out,
     size_t out_len);
 
-/* The name of variable `index`, where it is UTF-8. Writes a place (16 bytes); -1 to -5, -9, -12. */
+/* The name of variable `index`, where it is UTF-8, as msft_name reads it. Writes a place (16
+   bytes); -1 to -5, -9, -12. */
 int64_t msft_var_name(
     const uint8_t *lib, size_t lib_len, size_t at, size_t len, size_t index, uint8_t *out,
     size_t out_len);
 
-/* Name `k`, from 0, of the entries of a typeinfo, its own name left out. Writes a place (16
-   bytes); -1 to -5, -9, -12. */
+/* Name `k`, from 0, of the entries of a typeinfo, its own name left out, as msft_name_step
+   yields them from the start of segment 7. Writes a place (16 bytes); -1 to -5, -9, -12. */
 int64_t msft_member_name(
     const uint8_t *lib, size_t lib_len, size_t index, size_t k, uint8_t *out, size_t out_len);
 
 /* ---- typelib: descriptions of types, references and constants ---- */
-/* The type descriptor at an offset: its code, and what the code asks for. Writes two u32 (8
-   bytes); -1 to -5, -9, -12. */
+/* The type descriptor at an offset: its code, and what the code asks for; its 8 bytes end inside
+   segment 9. Writes two u32 (8 bytes); -1 to -5, -9, -12. */
 int64_t msft_type_desc(
     const uint8_t *lib, size_t lib_len, int32_t offset, uint8_t *out, size_t out_len);
 
-/* The array descriptor at an offset, with its bounds. Writes a place (16 bytes); -1 to -5, -9,
-   -12. */
+/* The array descriptor at an offset, with its bounds, which end inside segment 10. Writes a
+   place (16 bytes); -1 to -5, -9, -12. */
 int64_t msft_array_desc(
     const uint8_t *lib, size_t lib_len, int32_t offset, uint8_t *out, size_t out_len);
 
-/* What a type field names, one level of it. Writes a description (3, 5 or 17 bytes); -1 to -5,
-   -9, -12. */
+/* What a type field names, one level of it: a base type, or by a type descriptor, and by an
+   array descriptor where it asks for one. Writes a description (3, 5 or 17 bytes); -1 to -5, -9,
+   -12. */
 int64_t msft_type_description(
     const uint8_t *lib, size_t lib_len, int32_t datatype, uint8_t *out, size_t out_len);
 
-/* The import file at an offset of its table. Writes a place (16 bytes); -1 to -5, -9, -12. */
+/* The import file at an offset of its table; its entry, filled up, ends inside segment 2. Writes
+   a place (16 bytes); -1 to -5, -9, -12. */
 int64_t msft_imp_file(
     const uint8_t *lib, size_t lib_len, int32_t offset, uint8_t *out, size_t out_len);
 
@@ -634,13 +654,15 @@ int64_t msft_imp_file(
 int64_t msft_resolve_hreftype(
     const uint8_t *lib, size_t lib_len, int32_t hreftype, uint8_t *out, size_t out_len);
 
-/* What an hreftype refers to, in this library or another. Writes a reference (9, 18 or 34
-   bytes); -1 to -5, -9, -12. */
+/* What an hreftype refers to, in this library or another; an import record ends inside segment
+   1, and its import file is as msft_imp_file has it. Writes a reference (9, 18 or 34 bytes); -1
+   to -5, -9, -12. */
 int64_t msft_resolve_hreftype_full(
     const uint8_t *lib, size_t lib_len, int32_t hreftype, uint8_t *out, size_t out_len);
 
 /* The constant that a record's word gives: inline where the word is negative, else at that
-   offset of the table. Writes a constant (2 to 19 bytes); -1 to -5, -9, -12. */
+   offset of the table, where it ends inside segment 11. Writes a constant (2 to 19 bytes); -1 to
+   -5, -9, -12. */
 int64_t msft_const_value(
     const uint8_t *lib, size_t lib_len, int32_t word, uint8_t *out, size_t out_len);
 
@@ -659,20 +681,22 @@ int64_t msft_vars(
 int64_t msft_params(
     const uint8_t *lib, size_t lib_len, size_t at, size_t len, uint8_t *out, size_t out_len);
 
-/* The entries of the GUID table. Writes a cursor (16 bytes); -1 to -5, -12. */
+/* The entries of the GUID table, to the end of segment 5. Writes a cursor (16 bytes); -1 to -5,
+   -12. */
 int64_t msft_guids(const uint8_t *lib, size_t lib_len, uint8_t *out, size_t out_len);
 
-/* The import records. Writes a cursor (16 bytes); -1 to -5, -12. */
+/* The import records, to the end of segment 1. Writes a cursor (16 bytes); -1 to -5, -12. */
 int64_t msft_imports(const uint8_t *lib, size_t lib_len, uint8_t *out, size_t out_len);
 
-/* The import files. Writes a cursor (16 bytes); -1 to -5, -12. */
+/* The import files, to the end of segment 2. Writes a cursor (16 bytes); -1 to -5, -12. */
 int64_t msft_imp_files(const uint8_t *lib, size_t lib_len, uint8_t *out, size_t out_len);
 
-/* The entries of the name table. Writes a cursor (24 bytes); -1 to -5, -12. */
+/* The entries of the name table, to the end of segment 7. Writes a cursor (24 bytes); -1 to -5,
+   -12. */
 int64_t msft_names(const uint8_t *lib, size_t lib_len, uint8_t *out, size_t out_len);
 
-/* The cursor over the types that a typeinfo implements, at the first. Writes a chain cursor (20
-   bytes); -1 to -5, -9, -12. */
+/* The cursor over the types that a typeinfo implements, at the first. Its table is segment 3, or
+   has no bytes where that is missing. Writes a chain cursor (20 bytes); -1 to -5, -9, -12. */
 int64_t msft_impl_types(
     const uint8_t *lib, size_t lib_len, size_t at, size_t len, uint8_t *out, size_t out_len);
 
@@ -694,39 +718,41 @@ int64_t msft_param_step(
     const uint8_t *lib, size_t lib_len, size_t pos, size_t end, size_t remaining, uint8_t *out,
     size_t out_len);
 
-/* The GUID entry at the cursor, and the next cursor. Writes a place and a cursor (32 bytes); -1,
-   -9, -12. */
+/* The GUID entry at the cursor, whose 24 bytes end by `end`, and the next cursor. Writes a place
+   and a cursor (32 bytes); -1, -9, -12. */
 int64_t msft_guid_step(
     const uint8_t *lib, size_t lib_len, size_t pos, size_t end, uint8_t *out, size_t out_len);
 
-/* The import record at the cursor, and the next cursor. Writes a place and a cursor (32 bytes);
-   -1, -9, -12. */
+/* The import record at the cursor, whose 12 bytes end by `end`, and the next cursor. Writes a
+   place and a cursor (32 bytes); -1, -9, -12. */
 int64_t msft_import_step(
     const uint8_t *lib, size_t lib_len, size_t pos, size_t end, uint8_t *out, size_t out_len);
 
-/* The import file at the cursor, and the next cursor. Writes a place and a cursor (32 bytes);
-   -1, -9, -12. */
+/* The import file at the cursor, whose entry, filled up, ends by `end`, and the next cursor.
+   Writes a place and a cursor (32 bytes); -1, -9, -12. */
 int64_t msft_imp_file_step(
     const uint8_t *lib, size_t lib_len, size_t pos, size_t end, uint8_t *out, size_t out_len);
 
-/* The name's entry at the cursor, and the next cursor. Writes a name's entry and a cursor (59
-   bytes); -1, -9, -12. */
+/* The name's entry at the cursor, which ends by `end`, its text included, and the next cursor.
+   Writes a name's entry and a cursor (59 bytes); -1, -9, -12. */
 int64_t msft_name_step(
     const uint8_t *lib, size_t lib_len, size_t pos, size_t end, size_t start, uint8_t *out,
     size_t out_len);
 
-/* The typeinfo at the cursor, and the next cursor. After -6, -7 or -8, which are one entry's, go
-   on with index + 1. Writes a place and a cursor (24 bytes); -1 to -9, -12. */
+/* The typeinfo at the cursor, as msft_typeinfo has it, and the next cursor. After -6, -7 or -8,
+   which are one entry's, go on with index + 1. Writes a place and a cursor (24 bytes); -1 to -9,
+   -12. */
 int64_t msft_typeinfo_step(
     const uint8_t *lib, size_t lib_len, size_t index, uint8_t *out, size_t out_len);
 
-/* The reference record at the cursor, and the next cursor. Writes a place and a chain cursor (36
-   bytes); -1, -9, -12. */
+/* The reference record at the cursor, whose 16 bytes end inside the table at `at` of `len`
+   bytes, and the next cursor. Writes a place and a chain cursor (36 bytes); -1, -9, -12. */
 int64_t msft_impl_type_step(
     const uint8_t *lib, size_t lib_len, size_t at, size_t len, uint32_t next, uint8_t *out,
     size_t out_len);
 
-/* How many records the chain has from the cursor on. Writes a u64 (8 bytes); -1, -10, -12. */
+/* How many records the chain has from the cursor on, each inside the table at `at` of `len`
+   bytes: none where this has no bytes. Writes a u64 (8 bytes); -1, -10, -12. */
 int64_t msft_walk(
     const uint8_t *lib, size_t lib_len, size_t at, size_t len, uint32_t next, uint8_t *out,
     size_t out_len);

@@ -62,7 +62,7 @@ module _ (s : List ℕ) (lib : TypeLib) (offset n : ℕ) where
   unfolding textBehind
   text-negative h k = rw (ne-eqb n 0xffffffff h, le-leb 0x80000000 n k)
 
-  pub text-there : (a : Answer ConstValue) → (n ≡ 0xffffffff → ⊥) → n < 0x80000000 → a ≡ map (λ p. const.Bstr (record { at = p .at + 6; len = n })) (tablePlace false s lib 11 offset (6 + n)) → a ≡ textBehind s lib offset n
+  pub text-there : (a : Answer ConstValue) → (n ≡ 0xffffffff → ⊥) → n < 0x80000000 → a ≡ map (λ p. const.Bstr (record { at = p .at + 6; len = n })) (tablePlace s lib 11 offset (6 + n)) → a ≡ textBehind s lib offset n
   unfolding textBehind
   text-there a h k e = rw (ne-eqb n 0xffffffff h, lt-leb 0x80000000 n k) e
 

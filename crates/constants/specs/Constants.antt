@@ -134,7 +134,7 @@ unfoldable pub textBehind : List ℕ → TypeLib → ℕ → ℕ → Answer Cons
 textBehind s lib offset n =
     cond (eqb n 0xffffffff) (value const.NullBstr)
     (cond (negative n) (refused 9)
-    (map (λ p. const.Bstr (record { at = p .at + 6; len = n })) (tablePlace false s lib 11 offset (6 + n))))
+    (map (λ p. const.Bstr (record { at = p .at + 6; len = n })) (tablePlace s lib 11 offset (6 + n))))
 
 -- the value at `at`, by its code
 unfoldable pub valueAt : List ℕ → TypeLib → ℕ → ℕ → ℕ → Answer ConstValue
@@ -146,11 +146,11 @@ valueAt s lib offset vt at =
 -- it stands behind the two bytes of the code
 abbrev pub valueBehind : List ℕ → TypeLib → ℕ → ℕ → Answer ConstValue
 valueBehind s lib offset vt =
-    bind (tablePlace false s lib 11 offset (2 + storedWidth vt)) (λ p. valueAt s lib offset vt (p .at + 2))
+    bind (tablePlace s lib 11 offset (2 + storedWidth vt)) (λ p. valueAt s lib offset vt (p .at + 2))
 
 -- a constant of segment 11
 abbrev pub storedAt : List ℕ → TypeLib → ℕ → Answer ConstValue
-storedAt s lib offset = bind (tablePlace false s lib 11 offset 2) (λ p. valueBehind s lib offset (le 2 s (p .at)))
+storedAt s lib offset = bind (tablePlace s lib 11 offset 2) (λ p. valueBehind s lib offset (le 2 s (p .at)))
 
 -- a word that is negative is the constant, and another is its offset
 abbrev pub constAt : List ℕ → TypeLib → ℕ → Answer ConstValue

@@ -73,7 +73,7 @@ pub fn const_at(lib: &Numbers, s: &[u8], word: u32) -> ConstAnswer
 fn stored_const(lib: &Numbers, s: &[u8], offset: u32) -> ConstAnswer
     ensures { λ r. ⌜ toldConst r ≡ storedAt (now (s .entry)) (library (now (lib .entry))) offset ⌝ }
 {
-    match tables::table_place(lib, s, CONSTANTS, offset, 2, false) {
+    match tables::table_place(lib, s, CONSTANTS, offset, 2) {
         PlaceAnswer::Value(place) => {
             let vt = util::u16_or_zero(s, place.at);
             value_behind(lib, s, offset, vt)
@@ -86,7 +86,7 @@ fn stored_const(lib: &Numbers, s: &[u8], offset: u32) -> ConstAnswer
 fn value_behind(lib: &Numbers, s: &[u8], offset: u32, vt: u16) -> ConstAnswer
     ensures { λ r. ⌜ toldConst r ≡ valueBehind (now (s .entry)) (library (now (lib .entry))) offset vt ⌝ }
 {
-    match tables::table_place(lib, s, CONSTANTS, offset, 2 + stored_width(vt), false) {
+    match tables::table_place(lib, s, CONSTANTS, offset, 2 + stored_width(vt)) {
         PlaceAnswer::Value(place) => {
             let at = place.at + 2;
             match vt {
@@ -110,7 +110,7 @@ fn text_behind(lib: &Numbers, s: &[u8], offset: u32, length: u32) -> ConstAnswer
         return ConstAnswer::Refused(9);
     }
     let len = length as usize;
-    match tables::table_place(lib, s, CONSTANTS, offset, 6 + len, false) {
+    match tables::table_place(lib, s, CONSTANTS, offset, 6 + len) {
         PlaceAnswer::Value(place) => {
             let at = place.at + 6;
             ConstAnswer::Value(ConstValue::Bstr(Place { at, len }))

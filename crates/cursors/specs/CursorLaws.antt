@@ -107,6 +107,7 @@ module _ (s : List ℕ) (pos end size : ℕ) where
   fixed-there h k = rw (le-ltb end (pos + size) h, le-ltb (length s) (pos + size) k)
 
 pub record Fixed (s : List ℕ) (pos end size : ℕ) (p : Place) : Type 0 where
+  pub start : p .at ≡ pos
   pub inside : pos + size ≤ length s
   pub within : pos + size ≤ end
   pub whole : p .len ≡ size
@@ -121,6 +122,7 @@ fixed s pos end size p =
     cond-elim P (ltb (length s) (pos + size)) _ _ (λ _. no 9) (λ h2 e.
     let q : p ≡ record { at = pos; len = size } = cc in
     record {
+      start = ap (λ (x : Place). x .at) q;
       inside = ltb-false (length s) (pos + size) h2;
       within = ltb-false end (pos + size) h1;
       whole = ap (λ (x : Place). x .len) q;
@@ -151,13 +153,17 @@ lent-value {A} s x a =
     (λ _ e. let z : _≡_ {A = ℕ} 0 1 = cc in absurd (omega arith))
     (λ h e. record { few = ltb-false limit (length s) h; is = e })
 
-pub lent-bind : {A B : Type 0} (s : List ℕ) (a : Answer A) (f : A → Answer B) (n : ℕ) → refused n ≡ lent s a → refused n ≡ lent s (bind a f)
+-- what hands a refusal on hands it on behind the test, too
+pub lent-refused : {A B : Type 0} (s : List ℕ) (a : Answer A) (g : Answer A → Answer B) (n : ℕ) → refused n ≡ g (refused n) → refused n ≡ lent s a → refused n ≡ lent s (g a)
 unfolding lent
-lent-bind {A} {B} s a f n = go (ltb limit (length s))
+lent-refused {A} {B} s a g n h = go (ltb limit (length s))
   where
-    go : (b : Bool) → refused n ≡ cond b (refused 1) a → refused n ≡ cond b (refused 1) (bind a f)
+    go : (b : Bool) → refused n ≡ cond b (refused 1) a → refused n ≡ cond b (refused 1) (g a)
     go true e = let q : n ≡ 1 = cc in ap refused q
-    go false e = ap (λ (x : Answer A). bind x f) e
+    go false e = h ∙ ap g e
+
+pub lent-bind : {A B : Type 0} (s : List ℕ) (a : Answer A) (f : A → Answer B) (n : ℕ) → refused n ≡ lent s a → refused n ≡ lent s (bind a f)
+lent-bind s a f n e = lent-refused s a (λ x. bind x f) n refl e
 
 -- ---- parameters
 

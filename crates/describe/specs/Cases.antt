@@ -1,7 +1,6 @@
 -- What holds of each case of a resolved reference and of a type's description holds of what the readings answer.
 -- Assumes nothing.
 use mathlib.Core.Path.{_≡_}
-use mathlib.Core.Bool.{true}
 use mathlib.Core.List.{List}
 use Prim.Native.Nat.{ℕ, _+_, _-_, _/_, _%_, _^_, _<_}
 use native.Mathlib.Omega.{arith}
@@ -29,7 +28,7 @@ module _ (s : List ℕ) (lib : TypeLib) where
   -- ---- references
 
   module _ (P : Resolved → Type 0) (internal : (i : ℕ) → i < typeCount lib → P (here i))
-      (imported : (p : Place) (offset : ℕ) → value p ≡ tablePlace true s lib 1 offset (sizeOf impInfo) → P (external p (impFileAt s lib (le 4 s (p .at + offsetOf impInfo "oImpFile"))))) where
+      (imported : (p : Place) (offset : ℕ) → value p ≡ tablePlace s lib 1 offset (sizeOf impInfo) → P (external p (impFileAt s lib (le 4 s (p .at + offsetOf impInfo "oImpFile"))))) where
     index-case : (h : ℕ) → IfValue (λ i. P (here i)) (internalIndex (typeCount lib) h)
     unfolding internalIndex
     index-case h =
@@ -44,7 +43,7 @@ module _ (s : List ℕ) (lib : TypeLib) where
         (λ _. answers-map here (index-case h) (λ i k. k))
         (λ _.
         answers-map (λ p. external p (impFileAt s lib (le 4 s (p .at + 4))))
-        (told {P = λ p. value p ≡ tablePlace true s lib 1 (h - h % 4) 12} (tablePlace true s lib 1 (h - h % 4) 12) (λ p e. e)) (λ p e.
+        (told {P = λ p. value p ≡ tablePlace s lib 1 (h - h % 4) 12} (tablePlace s lib 1 (h - h % 4) 12) (λ p e. e)) (λ p e.
         imported p (h - h % 4) e))
 
     pub resolved-cases : (h : ℕ) → IfValue P (hrefResolved s lib h)

@@ -216,7 +216,7 @@ module _ (s : List ℕ) (octets : Octets s) (lib : TypeLib) where
   behind-fits offset n =
       cond-elim (IfValue (Fitted s)) (eqb n 0xffffffff) _ _ (λ _. gives null-fits) (λ _.
       cond-elim (IfValue (Fitted s)) (negative n) _ _ (λ _. refuses tt) (λ h.
-      answers-map (λ p. const.Bstr (record { at = p .at + 6; len = n })) (anything (tablePlace false s lib 11 offset (6 + n))) (λ p _.
+      answers-map (λ p. const.Bstr (record { at = p .at + 6; len = n })) (anything (tablePlace s lib 11 offset (6 + n))) (λ p _.
       text-fits (record { at = p .at + 6; len = n }) (omega (arith, leb-false 0x80000000 n h)))))
 
   sixteen : (vt at : ℕ) → vt ≡ 14 → at + storedWidth vt ≤ length s → at + 16 ≤ length s
@@ -236,9 +236,9 @@ module _ (s : List ℕ) (octets : Octets s) (lib : TypeLib) where
 
   stored-fits : (offset : ℕ) → IfValue (Fitted s) (storedAt s lib offset)
   stored-fits offset =
-      answers-bind (anything (tablePlace false s lib 11 offset 2)) (λ p _.
+      answers-bind (anything (tablePlace s lib 11 offset 2)) (λ p _.
       let vt : ℕ = le 2 s (p .at) in
-      answers-bind (told (tablePlace false s lib 11 offset (2 + storedWidth vt)) (λ q e. found-place _ s lib 11 offset (2 + storedWidth vt) q e)) (λ q f.
+      answers-bind (told (tablePlace s lib 11 offset (2 + storedWidth vt)) (λ q e. found-place s lib 11 offset (2 + storedWidth vt) q e)) (λ q f.
       value-fits offset vt (q .at + 2) (le-lt 2 s (p .at) octets) (omega (arith, f .inside))))
 
   inline-fits : (word : ℕ) → Fitted s (inlineOf word)

@@ -1,6 +1,5 @@
 -- Numbers, bytes, names and GUIDs that are taken from bytes fit their formats. Assumes nothing.
 use mathlib.Core.Path.{_≡_, _∙_}
-use mathlib.Core.Bool.{false}
 use mathlib.Core.List.{List, [], _∷_}
 use Prim.Native.Nat.{ℕ, zero, suc, _+_, _^_, _≤_, _<_}
 use native.Mathlib.Omega.{arith}
@@ -82,7 +81,7 @@ module _ (s : List ℕ) where
       guid-bytes : (x : ℕ) → IfValue (Fits guid) (bytesIn s (guidPlace s lib x))
       unfolding guid
       guid-bytes x =
-          answers-map _ (told (guidPlace s lib x) (λ p e. found-place _ s lib 5 x 16 p e)) (λ p h.
+          answers-map _ (told (guidPlace s lib x) (λ p e. found-place s lib 5 x 16 p e)) (λ p h.
           (part-length p (omega (arith, h .inside, h .whole)) ∙ h .whole, part-each p))
 
       pub guid-fits : (x : ℕ) → Fits (opt guid) (guidOf s lib x)
@@ -90,11 +89,11 @@ module _ (s : List ℕ) where
       guid-fits x = opt-fits guid (if-found (guid-bytes x))
 
       behind-short : (x n : ℕ) → n < 256 ^ 1 → IfValue (λ p. p .len < 256 ^ 1) (nameBehind s lib x n)
-      behind-short x n h = answers-map (λ p. record { at = p .at + 12; len = n }) (anything (tablePlace false s lib 7 x (12 + n))) (λ _ _. h)
+      behind-short x n h = answers-map (λ p. record { at = p .at + 12; len = n }) (anything (tablePlace s lib 7 x (12 + n))) (λ _ _. h)
 
       name-short : (x : ℕ) → IfValue (λ p. p .len < 256 ^ 1) (nameBytes s lib x)
       name-short x =
-          answers-bind (anything (tablePlace false s lib 7 x 9)) (λ intro _.
+          answers-bind (anything (tablePlace s lib 7 x 9)) (λ intro _.
           behind-short x (le 1 s (intro .at + 8)) (le-lt 1 s (intro .at + 8) octets))
 
       name-bytes : (x : ℕ) → IfValue (Fits name) (bytesIn s (nameBytes s lib x))

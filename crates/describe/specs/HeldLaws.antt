@@ -2,7 +2,6 @@
 -- of are held, as `YieldLaws` says of the other records: so every field is what its reading answers (`field-is` of `FieldLaws`).
 -- Assumes nothing.
 use mathlib.Core.Path.{_≡_, refl, sym, _∙_, ap}
-use mathlib.Core.Bool.{Bool, true, false}
 use mathlib.Core.List.{List, [], _∷_, _++_}
 use Prim.Native.Nat.{ℕ, zero, suc, _+_, _≤_, _<_}
 use native.Mathlib.Omega.{arith}
@@ -47,10 +46,10 @@ module _ (s : List ℕ) where
 
     -- ---- records of tables
 
-    place-held : (strict : Bool) (k offset size fixed : ℕ) → fixed ≤ size → IfValue (HeldAt fixed) (tablePlace strict s lib k offset size)
-    place-held strict k offset size fixed h =
-        told (tablePlace strict s lib k offset size) (λ p e.
-        let f = found-place strict s lib k offset size p e in
+    place-held : (k offset size fixed : ℕ) → fixed ≤ size → IfValue (HeldAt fixed) (tablePlace s lib k offset size)
+    place-held k offset size fixed h =
+        told (tablePlace s lib k offset size) (λ p e.
+        let f = found-place s lib k offset size p e in
         record { few = f .few; whole = omega (arith, f .whole); inside = omega (arith, f .whole, f .inside) })
 
     -- an import record, and the import file that it names
@@ -60,13 +59,13 @@ module _ (s : List ℕ) where
 
     file-held : (offset : ℕ) → IfValue (HeldAt (sizeOf impFile)) (impFileAt s lib offset)
     file-held offset =
-        answers-bind (anything (tablePlace true s lib 2 offset 14)) (λ p _.
-        place-held false 2 offset (impFileSize (le 2 s (p .at + 12))) 14 (omega arith))
+        answers-bind (anything (tablePlace s lib 2 offset 14)) (λ p _.
+        place-held 2 offset (impFileSize (le 2 s (p .at + 12))) 14 (omega arith))
 
     pub import-held : (h : ℕ) → IfValue ImportHeld (hrefResolved s lib h)
     import-held =
         resolved-cases s lib ImportHeld (λ _ _. tt) (λ p offset e.
-        (answers-value (place-held true 1 offset 12 12 (omega arith)) (sym e), file-held (le 4 s (p .at + 4))))
+        (answers-value (place-held 1 offset 12 12 (omega arith)) (sym e), file-held (le 4 s (p .at + 4))))
 
     -- ---- array descriptors, with the bounds that they count
 
@@ -75,12 +74,12 @@ module _ (s : List ℕ) where
       pub segment : value table ≡ segmentOf lib k
       pub at : p .at ≡ table .at + offset
 
-    starts : (strict : Bool) (k offset size : ℕ) (p : Place) → value p ≡ tablePlace strict s lib k offset size → Starts k offset p
-    starts strict k offset size p e = by (segmentOf lib k) refl (lent-value s p _ e .is)
+    starts : (k offset size : ℕ) (p : Place) → value p ≡ tablePlace s lib k offset size → Starts k offset p
+    starts k offset size p e = by (segmentOf lib k) refl (lent-value s p _ e .is)
       where
-        by : (a : Answer Place) → a ≡ segmentOf lib k → value p ≡ bind a (λ table. placeIn strict s table offset size) → Starts k offset p
+        by : (a : Answer Place) → a ≡ segmentOf lib k → value p ≡ bind a (λ table. placeIn s table offset size) → Starts k offset p
         by (value table) h f =
-            record { table = table; segment = h; at = ap (λ (x : Place). x .at) (place-is strict s table offset size p f) }
+            record { table = table; segment = h; at = ap (λ (x : Place). x .at) (place-is s table offset size p f) }
         by (refused n) h f = absurd (let z : _≡_ {A = ℕ} 0 1 = cc in omega arith)
 
     -- two places at one offset of a table start together
@@ -92,11 +91,11 @@ module _ (s : List ℕ) where
 
     array-held : (offset : ℕ) → IfValue (λ d. HeldAt (arrayDescSize (fieldOf arrayDesc "dimensions" s (d .at))) d) (arrayDescAt s lib offset)
     array-held offset =
-        answers-bind (told {P = λ p. value p ≡ tablePlace false s lib 10 offset 8} (tablePlace false s lib 10 offset 8) (λ p e. e)) (λ p e.
+        answers-bind (told {P = λ p. value p ≡ tablePlace s lib 10 offset 8} (tablePlace s lib 10 offset 8) (λ p e. e)) (λ p e.
         let size : ℕ = arrayDescSize (le 2 s (p .at + 4)) in
-        told (tablePlace false s lib 10 offset size) (λ q f.
-        let h = found-place false s lib 10 offset size q f in
-        let a : q .at ≡ p .at = together (starts false 10 offset size q f) (starts false 10 offset 8 p e) in
+        told (tablePlace s lib 10 offset size) (λ q f.
+        let h = found-place s lib 10 offset size q f in
+        let a : q .at ≡ p .at = together (starts 10 offset size q f) (starts 10 offset 8 p e) in
         let n : orZero (read 2 s (q .at + 4)) ≡ le 2 s (p .at + 4) =
         read-zero 2 s (q .at + 4) (orZero (read 2 s (q .at + 4))) (omega (arith, h .inside)) refl ∙ ap (λ (x : ℕ). le 2 s (x + 4)) a in
         record { few = h .few; whole = omega (arith, h .whole); inside = omega (arith, h .whole, h .inside) }))

@@ -24,3 +24,4 @@ pub mod HeldLaws
 pub mod DimensionLaws
 pub mod Edges
 pub mod WorkedCases
+pub mod TableEnds

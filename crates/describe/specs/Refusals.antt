@@ -157,8 +157,8 @@ module _ (s : List ℕ) (lib : TypeLib) where
       answers-bind (refusing-sound {P = λ _. Unit {0}} 6 (offsetWord s lib i) tt (λ _ _. tt)) (λ offset _.
       cond-elim (Answers Listed P) (negative offset) _ _ (λ _. refuses tt) (λ _.
       answers-bind (refusing-sound {P = λ _. Unit {0}} 7 (segmentOf lib 0) tt (λ _ _. tt)) (λ table _.
-      refusing-sound 8 (placeIn _ s table offset 100) tt (λ p e.
-      let f = found-in _ s table offset 100 p e in
+      refusing-sound 8 (placeIn s table offset 100) tt (λ p e.
+      let f = found-in s table offset 100 p e in
       record { few = few; whole = omega (arith, f .whole); inside = omega (arith, f .whole, f .inside) })))))
 
   type-sound : (i : ℕ) → Sound (typeOf s lib i)

@@ -28,7 +28,7 @@ use Rattle.typelib.specs.Tabulate.{tabulate}
 
 -- ---- where a chain starts
 
--- segment 3; where it is missing, offsets count from file offset 0
+-- segment 3; a missing one has no bytes, so that no record lies in it (document 02, §2)
 abbrev pub referenceTable : TypeLib → Place
 referenceTable lib = tableOf (segmentOf lib 3)
 
@@ -41,7 +41,7 @@ implTypesOf s lib ti =
 
 -- where the record at an offset lies: 9 where the offset is negative or the record leaves what bounds the table
 abbrev pub referenceAt : List ℕ → Place → ℕ → Answer Place
-referenceAt s table offset = placeIn false s table offset (sizeOf refRecord)
+referenceAt s table offset = placeIn s table offset (sizeOf refRecord)
 
 -- the offset that the record at `at` names
 abbrev pub onext : List ℕ → ℕ → ℕ

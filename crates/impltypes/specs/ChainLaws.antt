@@ -19,8 +19,8 @@ use Rattle.records.specs.Record.{limit, field}
 use Rattle.typelib.specs.declared.TypeLib.{TypeLib}
 use Rattle.impltypes.specs.declared.ImplTypeCursor.{ImplTypeCursor}
 use Rattle.impltypes.specs.Search.{apart, Some, some-below, none-below, before-first, at-first, Twice, twice}
-use Rattle.typelib.specs.Tables.{lent, negative, inTable, placeIn}
-use Rattle.typelib.specs.TableLaws.{lent-fits, found-in}
+use Rattle.typelib.specs.Tables.{lent, negative, segmentOf, inTable, placeIn, tableOf}
+use Rattle.typelib.specs.TableLaws.{lent-fits, in-table, found-in}
 use Rattle.typelib.specs.Tabulate.{tabulate, length-tabulate, getD-tabulate}
 use Rattle.cursors.specs.Cursors.{yielded, ended}
 use Rattle.impltypes.specs.Chain.{referenceTable, implTypesOf, referenceAt, onext, implTypeStepFrom, implTypeStep, isRefused}
@@ -29,21 +29,33 @@ use Rattle.impltypes.specs.Chain.{offsetAt, endsAt, returnsAt, taken, wa
 -- ---- places in a table
 
 -- a place that was found is at the table's start and the offset
-pub place-is : (strict : Bool) (s : List ℕ) (table : Place) (offset size : ℕ) (p : Place) → value p ≡ placeIn strict s table offset size → p ≡ record { at = table .at + offset; len = size }
+pub place-is : (s : List ℕ) (table : Place) (offset size : ℕ) (p : Place) → value p ≡ placeIn s table offset size → p ≡ record { at = table .at + offset; len = size }
 unfolding placeIn
-place-is strict s table offset size p =
+place-is s table offset size p =
     let P : Answer Place → Type 0 = λ a. value p ≡ a → p ≡ record { at = table .at + offset; len = size } in
     let no : P (refused 9) = λ e. let z : _≡_ {A = ℕ} 0 1 = cc in absurd (omega arith) in
     cond-elim P (negative offset) _ _ (λ _. no) (λ _.
-    cond-elim P (inTable strict s table (offset + size)) _ _ (λ _ e. cc) (λ _. no))
+    cond-elim P (inTable s table (offset + size)) _ _ (λ _ e. cc) (λ _. no))
 
 -- a place that was not found is 9
-pub place-nine : (strict : Bool) (s : List ℕ) (table : Place) (offset size : ℕ) → isRefused (placeIn strict s table offset size) ≡ true → refused 9 ≡ placeIn strict s table offset size
+pub place-nine : (s : List ℕ) (table : Place) (offset size : ℕ) → isRefused (placeIn s table offset size) ≡ true → refused 9 ≡ placeIn s table offset size
 unfolding placeIn
-place-nine strict s table offset size =
+place-nine s table offset size =
     let P : Answer Place → Type 0 = λ a. isRefused a ≡ true → refused 9 ≡ a in
     cond-elim P (negative offset) _ _ (λ _ _. refl) (λ _.
-    cond-elim P (inTable strict s table (offset + size)) _ _ (λ _ e. apart e refl) (λ _ _. refl))
+    cond-elim P (inTable s table (offset + size)) _ _ (λ _ e. apart e refl) (λ _ _. refl))
+
+-- nothing lies in a table with no bytes
+place-empty : (s : List ℕ) (table : Place) (offset : ℕ) → table .len ≡ 0 → isRefused (referenceAt s table offset) ≡ true
+unfolding placeIn
+place-empty s table offset z =
+    let P : Answer Place → Type 0 = λ a. isRefused a ≡ true in
+    cond-elim P (negative offset) _ _ (λ _. refl) (λ _.
+    cond-elim P (inTable s table (offset + 16)) _ _ (λ h. absurd (omega (arith, z, in-table s table (offset + 16) h .segment))) (λ _. refl))
+
+ends-empty : (s : List ℕ) (c : ImplTypeCursor) → c .table .len ≡ 0 → (k : ℕ) → endsAt s c k ≡ true
+unfolding endsAt
+ends-empty s c z k = place-empty s (c .table) (offsetAt s c k) z
 
 -- ---- where a chain starts
 
@@ -94,11 +106,11 @@ module _ (s : List ℕ) (c : ImplTypeCursor) where
   there k = by (referenceAt s (c .table) (offsetAt s c k)) refl
     where
       by : (a : Answer Place) → referenceAt s (c .table) (offsetAt s c k) ≡ a → isRefused a ≡ false → value (placeAt s c k) ≡ a
-      by (value p) e h = ap value (sym (place-is _ s (c .table) (offsetAt s c k) (sizeOf refRecord) p (sym e)))
+      by (value p) e h = ap value (sym (place-is s (c .table) (offsetAt s c k) (sizeOf refRecord) p (sym e)))
       by (refused n) e h = apart refl h
 
   pub inside : (k : ℕ) → endsAt s c k ≡ false → c .table .at + offsetAt s c k + sizeOf refRecord ≤ length s
-  inside k e = found-in _ s (c .table) (offsetAt s c k) (sizeOf refRecord) (placeAt s c k) (there k e) .inside
+  inside k e = found-in s (c .table) (offsetAt s c k) (sizeOf refRecord) (placeAt s c k) (there k e) .inside
 
   -- more records than have room at different offsets: an offset comes twice, so the chain returns
   comes-twice : (n : ℕ) → length s - 15 < n → Passes s c n → Twice (offsetAt s c) n
@@ -231,6 +243,10 @@ module _ (s : List ℕ) (c : ImplTypeCursor) where
         (λ _ r. absurd (not-both n (t .1) r)),
   )
 
+  -- a table with no bytes has no record
+  pub walk-empty : length s ≤ limit → c .table .len ≡ 0 → value 0 ≡ walkOf s c
+  walk-empty h e = walk-took 0 .1 (h, record { passes = passes-none; ends = ends-empty s c e 0 })
+
   -- and then n is at most length - 15, and 0 under 16 bytes
   pub walk-most : (n : ℕ) → value n ≡ walkOf s c → n ≤ length s - 15
   walk-most n e = most n (walk-took n .0 e .1)
@@ -300,7 +316,7 @@ module _ (s : List ℕ) (c : ImplTypeCursor) where
   pub step-ends : (k : ℕ) → length s ≤ limit → endsAt s c k ≡ true → ended 9 (cursorAt s c k) ≡ implTypeStep s (cursorAt s c k)
   unfolding endsAt
   step-ends k h e =
-      step-is s (cursorAt s c k) (refused 9) (lent-fits s _ (refused 9) h (place-nine _ s (c .table) (offsetAt s c k) (sizeOf refRecord) e))
+      step-is s (cursorAt s c k) (refused 9) (lent-fits s _ (refused 9) h (place-nine s (c .table) (offsetAt s c k) (sizeOf refRecord) e))
 
   -- ---- how the counting walk goes: n records are passed, and x is the next offset
 
@@ -320,7 +336,7 @@ module _ (s : List ℕ) (c : ImplTypeCursor) where
     pub stands-more : (p : Place) (y : ℕ) → value p ≡ referenceAt s (c .table) x → y ≡ onext s (p .at) → Stands (n + 1) y
     unfolding offsetAt
     stands-more p y e q =
-        let a : p .at ≡ c .table .at + offsetAt s c n = ap (λ (k : Place). k .at) (place-is _ s (c .table) x (sizeOf refRecord) p e) ∙ ap (λ (k : ℕ). c .table .at + k) (h .at) in
+        let a : p .at ≡ c .table .at + offsetAt s c n = ap (λ (k : Place). k .at) (place-is s (c .table) x (sizeOf refRecord) p e) ∙ ap (λ (k : ℕ). c .table .at + k) (h .at) in
         rw add-one (record { passes = passes-more n (h .passes) (stands-there p e); at = q ∙ ap (onext s) a })
 
     -- no record is there: the chain has n
@@ -333,3 +349,13 @@ module _ (s : List ℕ) (c : ImplTypeCursor) where
     pub stands-round : (p : Place) → length s ≤ limit → value p ≡ referenceAt s (c .table) x → length s - 15 ≤ n → refused 10 ≡ walkOf s c
     stands-round p k e m =
         walk-circle .1 (k, crowded (suc n) (omega arith) (passes-more n (h .passes) (stands-there p e)))
+
+-- WITHOUT SEGMENT 3 a typeinfo's chain has no record, and the walk along it takes 0 (document 02, §2)
+pub no-table : (s : List ℕ) (lib : TypeLib) (ti : TypeInfoEntry) (c : ImplTypeCursor) (n : ℕ) → length s ≤ limit → segmentOf lib 3 ≡ refused n → value c ≡ implTypesOf s lib ti → value 0 ≡ walkOf s c
+no-table s lib ti c n h missing = by (field typeInfoBase "datatype1" s (ti .at) (ti .len))
+  where
+    by : (a : Answer ℕ) → value c ≡ map (λ (offset : ℕ). record { table = referenceTable lib; next = offset }) a → value 0 ≡ walkOf s c
+    by (value offset) e =
+        let q : c ≡ record { table = referenceTable lib; next = offset } = cc in
+        walk-empty s c h (ap (λ (x : ImplTypeCursor). x .table .len) q ∙ ap (λ (a : Answer Place). tableOf a .len) missing)
+    by (refused m) e = let z : _≡_ {A = ℕ} 0 1 = cc in absurd (omega arith)

@@ -114,7 +114,7 @@ impl ImplTypeCursor {
 fn reference_at(s: &[u8], table: Place, offset: u32) -> PlaceAnswer
     ensures { λ r. ⌜ toldPlace r ≡ referenceAt (now (s .entry)) table offset ⌝ }
 {
-    tables::place_in(s, table, offset, RefRecord::SIZE, false)
+    tables::place_in(s, table, offset, RefRecord::SIZE)
 }
 
 // The offset that the record at `at` names.

@@ -1,7 +1,6 @@
 -- The chain of implemented types, gone along once: its records are measured while it is walked. Assumes nothing.
 use Rattle.typelib.specs.Header.{typeCount}
 use mathlib.Core.Path.{_≡_, refl, sym, ap, _∙_}
-use mathlib.Core.Bool.{false}
 use mathlib.Core.List.{List, [], _∷_, _++_, append-assoc, append-nil}
 use mathlib.Core.List as lists
 use Prim.Native.Nat.{ℕ, _+_, _-_, _≤_}
@@ -77,10 +76,10 @@ module _ (s : List ℕ) (c : ImplTypeCursor) where
           }
 
       pub along-place : p ≡ placeAt s c n
-      along-place = place-is false s (c .table) (d .next) (sizeOf refRecord) p there ∙ ap (λ (x : ℕ). record { at = c .table .at + x; len = sizeOf refRecord }) (a .next .at)
+      along-place = place-is s (c .table) (d .next) (sizeOf refRecord) p there ∙ ap (λ (x : ℕ). record { at = c .table .at + x; len = sizeOf refRecord }) (a .next .at)
 
       pub along-inside : p .at + 16 ≤ length s
-      along-inside = found-in _ _ _ _ _ _ there .inside
+      along-inside = found-in _ _ _ _ _ there .inside
 
       pub along-round : length s - 15 ≤ n → refused 10 ≡ walkOf s c
       along-round m = stands-round s c n (d .next) (a .next) p few there m

@@ -1,6 +1,5 @@
 -- How many bytes the parts have that the sizes count. Assumes nothing.
 use mathlib.Core.Path.{_≡_, refl, sym, ap, ap₂, _∙_}
-use mathlib.Core.Bool.{false}
 use mathlib.Core.List.{List, [], _∷_, _++_, append-assoc}
 use Prim.Native.Nat.{ℕ, _+_, _*_, _/_, _%_, _^_, _≤_}
 use native.Mathlib.Omega.{arith}
@@ -59,10 +58,10 @@ head-length s at kind = simp (length-append, length-leBytes)
 module _ (s : List ℕ) (lib : TypeLib) where
   name-inside : (offset : ℕ) → IfValue (λ p. p .at + p .len ≤ length s) (nameBytes s lib offset)
   name-inside offset =
-      answers-bind (anything (tablePlace false s lib 7 offset 9)) (λ intro _.
+      answers-bind (anything (tablePlace s lib 7 offset 9)) (λ intro _.
       let n : ℕ = le 1 s (intro .at + 8) in
       answers-map (λ p. record { at = p .at + 12; len = n })
-      (told (tablePlace false s lib 7 offset (12 + n)) (λ p e. found-place false s lib 7 offset (12 + n) p e))
+      (told (tablePlace s lib 7 offset (12 + n)) (λ p e. found-place s lib 7 offset (12 + n) p e))
       (λ p h. omega (arith, h .inside)))
 
   pub name-room : (offset : ℕ) {a : PlaceAnswer} {p : Place} → toldPlace a ≡ nameBytes s lib offset → a ≡ place.Value p → p .at + p .len ≤ length s
@@ -72,7 +71,7 @@ module _ (s : List ℕ) (lib : TypeLib) where
     pub guid-there : {p : Place} → toldPlace a ≡ guidPlace s lib offset → a ≡ place.Value p
         → Counted 17 to r → Measured (value (encode (opt guid) (guidOf s lib offset))) to r
     guid-there {p} e f m =
-        let h = found-place false s lib 5 offset 16 p (sym (ap toldPlace f) ∙ e) in
+        let h = found-place s lib 5 offset 16 p (sym (ap toldPlace f) ∙ e) in
         known (part-some s f refl ∙ guid-is s lib offset (toldPlace a) e)
         (m (1 ∷ partOf s (value p)) (omega (arith, part-length s p (omega (arith, h .inside, h .whole)), h .whole)))
 

@@ -1,11 +1,10 @@
 -- Names that are near. Assumes nothing.
-use mathlib.Core.Path.{_≡_, refl, sym, ap, _∙_}
-use mathlib.Core.Bool.{false}
+use mathlib.Core.Path.{_≡_, refl, ap, _∙_}
 use mathlib.Core.List.{List}
 use Prim.Native.Nat.{ℕ, _+_, _≤_, _<_}
 use native.Mathlib.Omega.{arith}
 use lib.ListN.{length}
-use borrow.Author.Tests.{le-leb, lt-ltb, le-ltb}
+use borrow.Author.Tests.{lt-ltb, le-ltb}
 use Rattle.util.specs.Read.{read, orZero, read-zero}
 use Rattle.records.specs.declared.answer.Place.{Place}
 use Rattle.records.specs.Answer.{Answer, value}
@@ -13,8 +12,8 @@ use Rattle.records.specs.AnswerLaws.{map-value, bind-value}
 use Rattle.records.specs.Record.{limit}
 use Rattle.typelib.specs.declared.TypeLib.{TypeLib}
 use Rattle.typelib.specs.Names.{nameBehind, nameBytes}
-use Rattle.typelib.specs.Tables.{segmentOf}
-use Rattle.typelib.specs.TableLaws.{lent-fits, table-file, place-there, found}
+use Rattle.typelib.specs.Tables.{segmentOf, tableOf}
+use Rattle.typelib.specs.TableLaws.{lent-fits, table-is, table-there, place-there, found}
 use Rattle.sheet_trees.specs.declared.names.Names.{Names}
 use Rattle.sheet_trees.specs.Names.{Near, nameIn}
 
@@ -22,20 +21,20 @@ module _ (s : List ℕ) (lib : TypeLib) where
   pub near-none : (at : ℕ) → Near s lib (record { at = at; near = 0 })
   near-none at offset n h k = absurd (omega (arith, h))
 
-  -- what ends inside the file when it is longest and as far as `near` is inside wherever it is nearer and shorter
-  pub near-table : (table : Place) (near : ℕ) → length s ≤ limit → value table ≡ segmentOf lib 7 → table .at + (near + 267) ≤ length s
-      → Near s lib (record { at = table .at; near = near })
-  near-table table near few e inside offset n h k =
+  -- what ends inside a table when it is longest and as far as `near` is inside wherever it is nearer and shorter
+  pub near-table : (table : Place) (near : ℕ) → length s ≤ limit → table ≡ tableOf (segmentOf lib 7) → near + 267 ≤ table .len
+      → table .at + table .len ≤ length s → Near s lib (record { at = table .at; near = near })
+  near-table table near few e within inside offset n h k =
       lent-fits s _ _ few
-      (bind-value _ _ table _ e
-      (place-there false s table offset n (omega (arith, h, inside, few))
-      (sym (table-file s table (offset + n) false (le-leb (table .at + (offset + n)) (length s) (omega (arith, h, k, inside))) refl))))
+      (bind-value _ _ table _ (table-is (segmentOf lib 7) table e (omega (arith, within)))
+      (place-there s table offset n (omega (arith, h, within, inside, few))
+      (table-there s table (offset + n) (omega (arith, h, k, within)) (omega (arith, h, k, within, inside)))))
 
   pub near-name : (t : Names) (offset len : ℕ) → Near s lib t → offset < t .near → len < 256 → len ≡ orZero (read 1 s (t .at + offset + 8))
       → value (record { at = t .at + offset + 12; len = len }) ≡ nameBytes s lib offset
   near-name t offset len near h short e =
       let intro = near offset 9 h (omega arith) in
-      let inside = found false s lib 7 offset 9 _ intro in
+      let inside = found s lib 7 offset 9 _ intro in
       bind-value _ _ _ _ intro
       (map-value _ _ _ _ (near offset (12 + len) h (omega (arith, short))) refl
       ∙ ap (nameBehind s lib offset) (read-zero 1 s (t .at + offset + 8) len (omega (arith, inside .inside)) e))

@@ -1,6 +1,6 @@
 -- Names by where their table was looked up to lie. Assumes nothing.
 use mathlib.Core.Path.{_≡_}
-use mathlib.Core.Bool.{false, cond}
+use mathlib.Core.Bool.{cond}
 use mathlib.Core.List.{List}
 use Prim.Native.Nat.{ℕ, _+_, _≤_, _<_}
 use lib.Dec.{ltb}
@@ -19,9 +19,9 @@ use Rattle.describe.specs.Values.{found, bytesIn}
 use Rattle.sheet_trees.specs.declared.names.Names.{Names}
 
 -- The names are this library's own: at a near offset, what is no longer than the longest name (255 bytes behind an intro of 12) is
--- wholly inside, and lies where they say.
+-- wholly inside the table and the file, and lies where they say.
 abbrev pub Near : List ℕ → TypeLib → Names → Type 0
-Near s lib t = (offset n : ℕ) → offset < t .near → n ≤ 267 → value (record { at = t .at + offset; len = n }) ≡ tablePlace false s lib 7 offset n
+Near s lib t = (offset n : ℕ) → offset < t .near → n ≤ 267 → value (record { at = t .at + offset; len = n }) ≡ tablePlace s lib 7 offset n
 
 -- The name at an offset, whatever the names are: behind the intro at a near offset, as long as the byte at 8 of the intro says; at any
 -- other as the library has it.

@@ -15,8 +15,8 @@ const NAME_TABLE: usize = 7;
 // The bytes of the longest name and its intro.
 const LONGEST: usize = 12 + 255;
 
-// Where the table of names starts, and how many of its offsets are near: a name there is wholly inside the library, whatever its
-// length.
+// Where the table of names starts, and how many of its offsets are near: a name there is wholly inside the table, whatever its
+// length. None is in a table that passes the file's end.
 pub struct Names {
     pub at: u32,
     pub near: u32,
@@ -25,16 +25,14 @@ pub struct Names {
 pub fn names_of(s: &[u8], lib: &Numbers) -> Names
     ensures { λ r. ⌜ Near (now (s .entry)) (library (now (lib .entry))) r ⌝ }
 {
-    let len = s.len();
-    if LONGEST <= len {
-        if len <= LIMIT {
-            if let PlaceAnswer::Value(table) = tables::segment(lib, NAME_TABLE) {
-                if table.at <= len - LONGEST {
-                    return Names {
-                        at: table.at as u32,
-                        near: (len - LONGEST - table.at) as u32,
-                    };
-                }
+    let table = tables::table(lib, NAME_TABLE);
+    if s.len() <= LIMIT {
+        if LONGEST <= table.len {
+            if table.at + table.len <= s.len() {
+                return Names {
+                    at: table.at as u32,
+                    near: (table.len - LONGEST) as u32,
+                };
             }
         }
     }

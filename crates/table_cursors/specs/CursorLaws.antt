@@ -1,6 +1,5 @@
 -- Laws of `Cursors`, a case each. Assumes nothing.
 use mathlib.Core.Path.{_≡_, refl, sym, _∙_, ap}
-use mathlib.Core.Bool.{cond}
 use mathlib.Core.List.{List}
 use Prim.Native.Nat.{ℕ, _+_, _≤_, _<_}
 use native.Mathlib.Omega.{arith}
@@ -10,9 +9,10 @@ use borrow.Author.Tests.{le-leb, lt-leb, le-ltb, lt-ltb}
 use Rattle.util.specs.Read.{le, cond-elim}
 use Rattle.records.specs.declared.answer.Place.{Place}
 use Rattle.records.specs.Answer.{Answer, value, refused, map, bind}
+use Rattle.records.specs.AnswerLaws.{map-value}
 use Rattle.utf8.specs.Utf8.{utf8}
-use Rattle.records.specs.Counted.{impFileSize, textOf, textAt}
-use Rattle.records.specs.Record.{limit, recordPlace, partOf}
+use Rattle.records.specs.Counted.{impFileSize, textOf}
+use Rattle.records.specs.Record.{limit, partOf}
 use Rattle.typelib.specs.declared.TypeLib.{TypeLib}
 use Rattle.typelib.specs.Header.{typeCount}
 use Rattle.table_cursors.specs.declared.iterators.GuidCursor.{GuidCursor}
@@ -21,13 +21,13 @@ use Rattle.table_cursors.specs.declared.iterators.ImpFileCursor.{ImpFile
 use Rattle.table_cursors.specs.declared.iterators.NameCursor.{NameCursor}
 use Rattle.records.specs.declared.name.NameEntry.{NameEntry}
 use Rattle.table_cursors.specs.declared.iterators.TypeInfoCursor.{TypeInfoCursor}
-use Rattle.typelib.specs.TableLaws.{lent-fits, record-start, record-inside}
+use Rattle.typelib.specs.TableLaws.{lent-fits}
 use Rattle.typelib.specs.Tables.{lent}
 use Rattle.typelib.specs.TypeInfos.{typeinfoOf}
 use Rattle.table_cursors.specs.Cursors.{guidStepFrom, guidStep, importStepFrom, importStep, impFileStepFrom, impFileStep}
 use Rattle.cursors.specs.Cursors.{ended, fixedAt}
-use Rattle.cursors.specs.CursorLaws.{fixed, lent-value, lent-bind, stays, yields}
-use Rattle.table_cursors.specs.Cursors.{impFileEntry, typeinfoStepFrom, typeinfoStep, nameEntryFrom, nameEntry, entry, over, nameStepFrom, nameStep}
+use Rattle.cursors.specs.CursorLaws.{fixed, lent-value, lent-bind, lent-refused, stays, yields}
+use Rattle.table_cursors.specs.Cursors.{impFileEntry, typeinfoStepFrom, typeinfoStep, textBehind, nameEntryFrom, nameEntry, over, nameStepFrom, nameStep}
 
 -- ---- typeinfos
 
@@ -71,6 +71,15 @@ entry-inside s pos end p e =
 lent-inner : {A : Type 0} (s : List ℕ) (a r : Answer A) → length s ≤ limit → r ≡ lent s a → r ≡ a
 lent-inner s a r h e = e ∙ sym (lent-fits s a a h refl)
 
+module _ (s : List ℕ) (pos end n : ℕ) where
+  pub behind-value : (p : Place) → value p ≡ lent s (fixedAt s pos end (12 + n)) → value (record { at = pos + 12; len = n }) ≡ lent s (textBehind s pos end n)
+  behind-value p e =
+      let v = lent-value s p (fixedAt s pos end (12 + n)) e in
+      lent-fits s (textBehind s pos end n) _ (v .few) (map-value _ (fixedAt s pos end (12 + n)) p _ (v .is) refl)
+
+  pub behind-refused : (m : ℕ) → refused m ≡ lent s (fixedAt s pos end (12 + n)) → refused m ≡ lent s (textBehind s pos end n)
+  behind-refused m e = lent-refused s (fixedAt s pos end (12 + n)) (map (λ (_ : Place). record { at = pos + 12; len = n })) m refl e
+
 module _ (s : List ℕ) (c : NameCursor) where
   pub name-before : c .pos < c .start → refused 9 ≡ nameEntry s c
   unfolding nameEntry
@@ -95,24 +104,46 @@ module _ (s : List ℕ) (c : NameCursor) where
   name-none n l h e =
       rw (le-ltb (c .pos) (c .start) h, ← lent-inner s (fixedAt s (c .pos) (c .end) 12) (refused n) l e)
 
-  pub name-some : (p : Place) (a : Answer NameEntry) → c .start ≤ c .pos → value p ≡ lent s (fixedAt s (c .pos) (c .end) 12) → a ≡ map (nameEntryFrom s c) (textAt s (c .pos + 12) (le 1 s (c .pos + 8))) → a ≡ nameEntry s c
+  pub name-some : (p : Place) (a : Answer NameEntry) → c .start ≤ c .pos → value p ≡ lent s (fixedAt s (c .pos) (c .end) 12) → a ≡ map (nameEntryFrom s c) (textOf s (textBehind s (c .pos) (c .end) (le 1 s (c .pos + 8)))) → a ≡ nameEntry s c
   unfolding nameEntry
   name-some p a h e f = rw (le-ltb (c .pos) (c .start) h, ← lent-value s p (fixedAt s (c .pos) (c .end) 12) e .is) f
 
--- what holds of the place of any record at `at` holds of a text's place, and of the place in a name's entry
-module _ (s : List ℕ) (P : Place → Type 0) where
-  text-place : (at len : ℕ) → ((q : Place) → value q ≡ recordPlace 0 s at len → P q) → (p : Place) → value p ≡ textAt s at len → P p
-  unfolding textOf
-  text-place at len holds p = go (recordPlace 0 s at len) holds
-    where
-      go : (a : Answer Place) → ((q : Place) → value q ≡ a → P q) → value p ≡ bind a (λ q. cond (utf8 (partOf s (value q))) (value q) (refused 9)) → P p
-      go (value q) h =
-          cond-elim (λ (r : Answer Place). value p ≡ r → P p) (utf8 (partOf s (value q))) (value q) (refused 9)
-          (λ _ e. h p e)
-          (λ _ e. let z : _≡_ {A = ℕ} 0 1 = cc in absurd (omega arith))
-      go (refused n) h = λ e. let z : _≡_ {A = ℕ} 0 1 = cc in absurd (omega arith)
+  -- its text, where the length of the bytes was looked at
+  pub name-text : (n : ℕ) (a b : Answer Place) → length s ≤ limit → n ≡ le 1 s (c .pos + 8) → a ≡ lent s (textBehind s (c .pos) (c .end) n) → b ≡ textOf s a → b ≡ textOf s (textBehind s (c .pos) (c .end) (le 1 s (c .pos + 8)))
+  name-text n a b h q e f = f ∙ ap (textOf s) (lent-inner s (textBehind s (c .pos) (c .end) n) a h e) ∙ ap (λ (m : ℕ). textOf s (textBehind s (c .pos) (c .end) m)) q
 
-  module _ (c : NameCursor) (e : NameEntry) (holds : (q : Place) → value q ≡ recordPlace 0 s (c .pos + 12) (le 1 s (c .pos + 8)) → P q) where
+-- a text starts right behind the intro, and ends by the table's end and by the file's
+pub record Behind (s : List ℕ) (pos end : ℕ) (q : Place) : Type 0 where
+  pub start : q .at ≡ pos + 12
+  pub inside : q .at + q .len ≤ length s
+  pub within : q .at + q .len ≤ end
+
+text-behind : (s : List ℕ) (pos end n : ℕ) (q : Place) → length s ≤ limit → value q ≡ textBehind s pos end n → Behind s pos end q
+text-behind s pos end n q h = by (fixedAt s pos end (12 + n)) refl
+  where
+    by : (a : Answer Place) → fixedAt s pos end (12 + n) ≡ a → value q ≡ map (λ (_ : Place). record { at = pos + 12; len = n }) a → Behind s pos end q
+    by (value p) e f =
+        let x = fixed s pos end (12 + n) p (lent-fits s (fixedAt s pos end (12 + n)) (value p) h (sym e)) in
+        let g : q ≡ record { at = pos + 12; len = n } = cc in
+        let u : q .at ≡ pos + 12 = ap (λ (x : Place). x .at) g in
+        let v : q .len ≡ n = ap (λ (x : Place). x .len) g in
+        record { start = u; inside = omega (arith, x .inside); within = omega (arith, x .within) }
+    by (refused m) e f = let z : _≡_ {A = ℕ} 0 1 = cc in absurd (omega arith)
+
+-- what holds of a place holds of the text there, and of the text of a name's entry
+module _ (s : List ℕ) (P : Place → Type 0) where
+  text-place : (a : Answer Place) → ((q : Place) → value q ≡ a → P q) → (p : Place) → value p ≡ textOf s a → P p
+  unfolding textOf
+  text-place (value q) h p =
+      cond-elim (λ (r : Answer Place). value p ≡ r → P p) (utf8 (partOf s (value q))) (value q) (refused 9)
+      (λ _ e. h p e)
+      (λ _ e. let z : _≡_ {A = ℕ} 0 1 = cc in absurd (omega arith))
+  text-place (refused n) h p = λ e. let z : _≡_ {A = ℕ} 0 1 = cc in absurd (omega arith)
+
+  module _ (c : NameCursor) (e : NameEntry) where
+    abbrev text : Answer Place
+    text = textBehind s (c .pos) (c .end) (le 1 s (c .pos + 8))
+
     map-place : (a : Answer Place) → ((q : Place) → value q ≡ a → P q) → value e ≡ map (nameEntryFrom s c) a → P (e .text)
     map-place (value q) h f =
         let g : e ≡ nameEntryFrom s c q = cc in
@@ -120,29 +151,23 @@ module _ (s : List ℕ) (P : Place → Type 0) where
         rw t (h q refl)
     map-place (refused n) h f = let z : _≡_ {A = ℕ} 0 1 = cc in absurd (omega arith)
 
-    bind-place : (a : Answer Place) → value e ≡ bind a (λ _. map (nameEntryFrom s c) (textAt s (c .pos + 12) (le 1 s (c .pos + 8)))) → P (e .text)
-    bind-place (value q) f =
-        map-place (textAt s (c .pos + 12) (le 1 s (c .pos + 8))) (text-place (c .pos + 12) (le 1 s (c .pos + 8)) holds) f
-    bind-place (refused n) f = let z : _≡_ {A = ℕ} 0 1 = cc in absurd (omega arith)
+    bind-place : ((q : Place) → value q ≡ text → P q) → (a : Answer Place) → value e ≡ bind a (λ _. map (nameEntryFrom s c) (textOf s text)) → P (e .text)
+    bind-place holds (value q) f = map-place (textOf s text) (text-place text holds) f
+    bind-place holds (refused n) f = let z : _≡_ {A = ℕ} 0 1 = cc in absurd (omega arith)
 
-    name-place : value e ≡ lent s (nameEntry s c) → P (e .text)
+    name-place : ((q : Place) → length s ≤ limit → value q ≡ text → P q) → value e ≡ lent s (nameEntry s c) → P (e .text)
     unfolding nameEntry
-    name-place f =
+    name-place holds f =
+        let v = lent-value s e (nameEntry s c) f in
         cond-elim (λ (r : Answer NameEntry). value e ≡ r → P (e .text)) (ltb (c .pos) (c .start)) (refused 9)
-        (bind (fixedAt s (c .pos) (c .end) 12) (λ _. map (nameEntryFrom s c) (textAt s (c .pos + 12) (le 1 s (c .pos + 8)))))
+        (bind (fixedAt s (c .pos) (c .end) 12) (λ _. map (nameEntryFrom s c) (textOf s text)))
         (λ _ g. let z : _≡_ {A = ℕ} 0 1 = cc in absurd (omega arith))
-        (λ _ g. bind-place (fixedAt s (c .pos) (c .end) 12) g)
-        (lent-value s e (nameEntry s c) f .is)
+        (λ _ g. bind-place (λ q. holds q (v .few)) (fixedAt s (c .pos) (c .end) 12) g)
+        (v .is)
 
--- a name's place is inside the list, and starts right behind the intro
-module _ (s : List ℕ) where
-  pub name-inside : (c : NameCursor) (e : NameEntry) → value e ≡ lent s (nameEntry s c) → e .text .at + e .text .len ≤ length s
-  name-inside c e =
-      name-place s (λ p. p .at + p .len ≤ length s) c e (record-inside 0 s (c .pos + 12) (le 1 s (c .pos + 8)))
-
-  pub name-start : (c : NameCursor) (e : NameEntry) → value e ≡ lent s (nameEntry s c) → e .text .at ≡ c .pos + 12
-  name-start c e =
-      name-place s (λ p. p .at ≡ c .pos + 12) c e (record-start 0 s (c .pos + 12) (le 1 s (c .pos + 8)))
+pub name-behind : (s : List ℕ) (c : NameCursor) (e : NameEntry) → value e ≡ lent s (nameEntry s c) → Behind s (c .pos) (c .end) (e .text)
+name-behind s c e =
+    name-place s (Behind s (c .pos) (c .end)) c e (text-behind s (c .pos) (c .end) (le 1 s (c .pos + 8)))
 
 -- ---- a cursor that has yielded nothing
 

@@ -9,7 +9,7 @@ use mir.Val.{toZ}
 use Rattle.util.specs.Read.{le}
 use Rattle.records.specs.declared.answer.Place.{Place}
 use Rattle.records.specs.Answer.{Answer, value, refused, map, bind}
-use Rattle.records.specs.Counted.{impFileSize, textAt}
+use Rattle.records.specs.Counted.{impFileSize, textOf}
 use Rattle.records.specs.Layout.{sizeOf, offsetOf, guidEntry, impInfo, impFile}
 use Rattle.records.specs.Record.{limit}
 use Rattle.typelib.specs.declared.TypeLib.{TypeLib}
@@ -48,7 +48,7 @@ importStep s c = importStepFrom c (lent s (fixedAt s (c .pos) (c .end) (sizeOf i
 
 -- ---- import files, which carry their length
 
--- the entry at pos: its fixed part ends by the segment's end, the whole by the segment's and the file's
+-- the entry at pos: its fixed part and the whole end by the table's end and by the file's
 unfoldable pub impFileEntry : List ℕ → ℕ → ℕ → Answer Place
 impFileEntry s pos end =
     bind (fixedAt s pos end (sizeOf impFile)) (λ _.
@@ -94,6 +94,10 @@ typeinfoStep s lib c =
 
 -- ---- names
 
+-- where the text of n bytes behind the intro at pos lies: the entry, its text included, ends by the table's end and by the file's
+abbrev pub textBehind : List ℕ → ℕ → ℕ → ℕ → Answer Place
+textBehind s pos end n = map (λ _. record { at = pos + sizeOf nameIntro; len = n }) (fixedAt s pos end (sizeOf nameIntro + n))
+
 -- what stands before a name, with the place of its text
 abbrev pub nameEntryFrom : List ℕ → NameCursor → Place → NameEntry
 nameEntryFrom s c text =
@@ -106,13 +110,12 @@ nameEntryFrom s c text =
       hashcode = le 2 s (c .pos + offsetOf nameIntro "hashcode");
     }
 
--- The entry at the cursor: its intro ends by the segment's end and the file's, its text by the file's, and the text is UTF-8.
--- A cursor before its table's start has no entry.
+-- The entry at the cursor, whose text is UTF-8. A cursor before its table's start has no entry.
 unfoldable pub nameEntry : List ℕ → NameCursor → Answer NameEntry
 nameEntry s c =
     cond (ltb (c .pos) (c .start)) (refused 9)
     (bind (fixedAt s (c .pos) (c .end) (sizeOf nameIntro)) (λ _.
-    map (nameEntryFrom s c) (textAt s (c .pos + sizeOf nameIntro) (le 1 s (c .pos + offsetOf nameIntro "namelen")))))
+    map (nameEntryFrom s c) (textOf s (textBehind s (c .pos) (c .end) (le 1 s (c .pos + offsetOf nameIntro "namelen"))))))
 
 -- the next entry starts behind the text, filled up to a multiple of four
 abbrev pub nameStepFrom : NameCursor → Answer NameEntry → NameYield

@@ -3,4 +3,5 @@ pub mod Cursors
 pub mod CursorLaws
 pub mod Members
 pub mod MemberLaws
+pub mod TableEnds
 pub mod Told

@@ -12,7 +12,7 @@ use Rattle.records.specs.declared.answer.Place.{Place}
 use Rattle.records.specs.Answer.{Answer, value, refused}
 use Rattle.table_cursors.specs.declared.iterators.NameCursor.{NameCursor}
 use Rattle.table_cursors.specs.Cursors.{NameYield, entry, over, nameEntry, nameStepFrom, nameStep}
-use Rattle.table_cursors.specs.CursorLaws.{name-past, name-start}
+use Rattle.table_cursors.specs.CursorLaws.{name-past, name-behind}
 use Rattle.typelib.specs.Tables.{lent}
 use Rattle.typelib.specs.TableLaws.{lent-fits}
 use Rattle.records.specs.Record.{limit}
@@ -46,7 +46,7 @@ match-none s href c = refl
 
 -- a name takes the cursor forward
 ahead : (s : List ℕ) (c : NameCursor) (e : NameEntry) (d : NameCursor) → entry e d ≡ nameStep s c → c .pos < d .pos
-ahead s c e d = go (lent s (nameEntry s c)) (name-start s c)
+ahead s c e d = go (lent s (nameEntry s c)) (λ x f. name-behind s c x f .start)
   where
     go : (a : Answer NameEntry) → ((x : NameEntry) → value x ≡ a → x .text .at ≡ c .pos + 12) → entry e d ≡ nameStepFrom c a → c .pos < d .pos
     go (value x) h f =

@@ -7,7 +7,6 @@ use cursors::iterators;
 use records::answer;
 use records::answer::Place;
 use records::answer::PlaceAnswer;
-use records::field;
 use records::field::LIMIT;
 use records::guidentry::GuidEntry;
 use records::impfile::ImpFile;
@@ -20,10 +19,10 @@ use typelib::TypeLib;
 use typelib::tables;
 use typelib::typeinfos::TypeInfoAnswer;
 ghost use mathlib.Core.Path.{_≡_};
-ghost use Prim.Native.Nat.{_+_, _-_, _≤_};
+ghost use Prim.Native.Nat.{_+_, _-_, _≤_, _<_};
 ghost use lib.ListN.{length};
 ghost use Rattle.records.specs.Told.{toldPlace};
-ghost use Rattle.table_cursors.specs.Cursors.{guidStep, importStep, impFileEntry, impFileStep, guidsOf, importsOf, impFilesOf, typeinfosOf, typeinfoStep, nameEntryFrom, nameEntry, nameStep, namesIn, namesOf};
+ghost use Rattle.table_cursors.specs.Cursors.{guidStep, importStep, impFileEntry, impFileStep, guidsOf, importsOf, impFilesOf, typeinfosOf, typeinfoStep, textBehind, nameEntryFrom, nameEntry, nameStep, namesIn, namesOf};
 ghost use Rattle.typelib.specs.Header.{library, typeCount};
 ghost use Rattle.typelib.specs.Tables.{lent};
 ghost use Rattle.table_cursors.specs.Told.{toldGuids, toldGuidStep, toldImports, toldImportStep, toldImpFiles, toldImpFileStep, toldTypeInfos, toldTypeInfoStep, toldNames, toldNameStep, toldNameEntry};
@@ -323,12 +322,23 @@ fn name_entry(s: &[u8], c: NameCursor) -> NameEntryAnswer
     match iterators::fixed_at(s, pos, c.end, 12) {
         PlaceAnswer::Value(_) => {
             let len = util::u8_or_zero(s, pos + 8) as usize;
-            match answer::text(s, field::record_place(s, pos + 12, len, 0)) {
+            match answer::text(s, text_behind(s, pos, c.end, len)) {
                 PlaceAnswer::Value(text) => NameEntryAnswer::Value(name_entry_from(s, c, text)),
                 PlaceAnswer::Refused(n) => NameEntryAnswer::Refused(n),
             }
         }
         PlaceAnswer::Refused(n) => NameEntryAnswer::Refused(n),
+    }
+}
+
+// Where the text of `len` bytes behind the intro at `pos` lies: the entry ends with it.
+fn text_behind(s: &[u8], pos: usize, end: usize, len: usize) -> PlaceAnswer
+    requires { ⌜ len < 256 ⌝ }
+    ensures { λ r. ⌜ toldPlace r ≡ lent (now (s .entry)) (textBehind (now (s .entry)) pos end len) ⌝ }
+{
+    match iterators::fixed_at(s, pos, end, 12 + len) {
+        PlaceAnswer::Value(_) => PlaceAnswer::Value(Place { at: pos + 12, len }),
+        PlaceAnswer::Refused(n) => PlaceAnswer::Refused(n),
     }
 }
 

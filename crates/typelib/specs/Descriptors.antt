@@ -1,5 +1,5 @@
 -- Type descriptors and array descriptors, by their offset in a table: a 32-bit pattern. Assumes nothing.
-use mathlib.Core.Bool.{false, cond}
+use mathlib.Core.Bool.{cond}
 use mathlib.Core.List.{List, [], _∷_}
 use Prim.Native.Nat.{ℕ, _+_}
 use lib.Dec.{eqb}
@@ -25,13 +25,13 @@ typeDescriptor = ("code" of 4) ∷ ("extra" of 4) ∷ []
 abbrev pub typeDescAt : List ℕ → TypeLib → ℕ → Answer WordPair
 typeDescAt s lib offset =
     map (λ p. record { first = le 4 s (p .at); second = le 4 s (p .at + widthOf typeDescriptor "code") })
-    (tablePlace false s lib 9 offset (sizeOf typeDescriptor))
+    (tablePlace s lib 9 offset (sizeOf typeDescriptor))
 
 -- an array descriptor of segment 10, with the bounds that it counts
 abbrev pub arrayDescAt : List ℕ → TypeLib → ℕ → Answer Place
 arrayDescAt s lib offset =
-    bind (tablePlace false s lib 10 offset (sizeOf arrayDesc)) (λ p.
-    tablePlace false s lib 10 offset (arrayDescSize (le 2 s (p .at + offsetOf arrayDesc "dimensions"))))
+    bind (tablePlace s lib 10 offset (sizeOf arrayDesc)) (λ p.
+    tablePlace s lib 10 offset (arrayDescSize (le 2 s (p .at + offsetOf arrayDesc "dimensions"))))
 
 -- ---- what a type field names, one level of it
 

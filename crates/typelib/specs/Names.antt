@@ -1,5 +1,4 @@
 -- Names, strings and GUIDs, by their offset in a table: a 32-bit pattern. Assumes nothing.
-use mathlib.Core.Bool.{false}
 use mathlib.Core.List.{List, [], _∷_}
 use Prim.Native.Nat.{ℕ, _+_}
 use mir.Syntax.{w32}
@@ -23,12 +22,12 @@ nameIntro = ("hreftype" of 4) ∷ ("next_hash" of 4) ∷ ("namelen" of 1) ∷ ("
 -- a name of n bytes stands behind its intro
 abbrev pub nameBehind : List ℕ → TypeLib → ℕ → ℕ → Answer Place
 nameBehind s lib offset n =
-    map (λ p. record { at = p .at + sizeOf nameIntro; len = n }) (tablePlace false s lib 7 offset (sizeOf nameIntro + n))
+    map (λ p. record { at = p .at + sizeOf nameIntro; len = n }) (tablePlace s lib 7 offset (sizeOf nameIntro + n))
 
 -- the bytes of a name, in segment 7
 abbrev pub nameBytes : List ℕ → TypeLib → ℕ → Answer Place
 nameBytes s lib offset =
-    bind (tablePlace false s lib 7 offset (offsetOf nameIntro "namelen" + 1)) (λ intro.
+    bind (tablePlace s lib 7 offset (offsetOf nameIntro "namelen" + 1)) (λ intro.
     nameBehind s lib offset (le 1 s (intro .at + offsetOf nameIntro "namelen")))
 
 -- the same, where they are text in UTF-8
@@ -37,17 +36,17 @@ nameText s lib offset = textOf s (nameBytes s lib offset)
 
 -- a string of segment 8: two bytes of length, and the text
 abbrev pub stringBehind : List ℕ → TypeLib → ℕ → ℕ → Answer Place
-stringBehind s lib offset n = map (λ p. record { at = p .at + 2; len = n }) (tablePlace false s lib 8 offset (2 + n))
+stringBehind s lib offset n = map (λ p. record { at = p .at + 2; len = n }) (tablePlace s lib 8 offset (2 + n))
 
 abbrev pub stringBytes : List ℕ → TypeLib → ℕ → Answer Place
-stringBytes s lib offset = bind (tablePlace false s lib 8 offset 2) (λ p. stringBehind s lib offset (le 2 s (p .at)))
+stringBytes s lib offset = bind (tablePlace s lib 8 offset 2) (λ p. stringBehind s lib offset (le 2 s (p .at)))
 
 abbrev pub stringText : List ℕ → TypeLib → ℕ → Answer Place
 stringText s lib offset = textOf s (stringBytes s lib offset)
 
 -- a GUID of segment 5, at any offset
 abbrev pub guidPlace : List ℕ → TypeLib → ℕ → Answer Place
-guidPlace s lib offset = tablePlace false s lib 5 offset (sizeOf guid)
+guidPlace s lib offset = tablePlace s lib 5 offset (sizeOf guid)
 
 -- ---- a segment's bytes
 

@@ -1,5 +1,5 @@
 -- Imports, import files and hreftypes. Assumes nothing.
-use mathlib.Core.Bool.{Bool, true, false, cond}
+use mathlib.Core.Bool.{Bool, cond}
 use mathlib.Core.List.{List}
 use Prim.Native.Nat.{ℕ, _+_, _-_, _/_, _%_}
 use lib.Dec.{ltb, eqb}
@@ -13,11 +13,11 @@ use Rattle.typelib.specs.declared.TypeLib.{TypeLib}
 use Rattle.typelib.specs.Header.{typeCount}
 use Rattle.typelib.specs.Tables.{lent, negative, tablePlace}
 
--- an import file at an offset of segment 2: its fixed part inside the segment, the whole entry inside the file
+-- an import file at an offset of segment 2, with the padding behind its name
 abbrev pub impFileAt : List ℕ → TypeLib → ℕ → Answer Place
 impFileAt s lib offset =
-    bind (tablePlace true s lib 2 offset (sizeOf impFile)) (λ p.
-    tablePlace false s lib 2 offset (impFileSize (le 2 s (p .at + offsetOf impFile "size"))))
+    bind (tablePlace s lib 2 offset (sizeOf impFile)) (λ p.
+    tablePlace s lib 2 offset (impFileSize (le 2 s (p .at + offsetOf impFile "size"))))
 
 -- MSFT_HREFTYPE_INTHISFILE: the low two bits are clear
 abbrev pub inThisFile : ℕ → Bool
@@ -53,7 +53,7 @@ cleared h = cond (flagSet dispatchBit h) (h - dispatchBit) h
 abbrev pub importAt : List ℕ → TypeLib → ℕ → Answer Resolved
 importAt s lib offset =
     map (λ p. external p (impFileAt s lib (le 4 s (p .at + offsetOf impInfo "oImpFile"))))
-    (tablePlace true s lib 1 offset (sizeOf impInfo))
+    (tablePlace s lib 1 offset (sizeOf impInfo))
 
 unfoldable pub resolvedAt : List ℕ → TypeLib → ℕ → Answer Resolved
 resolvedAt s lib h = cond (inThisFile h) (map internal (internalIndex (typeCount lib) h)) (importAt s lib (h - h % 4))

@@ -1,6 +1,6 @@
 -- Laws of `Tables`, a case each. Assumes nothing.
-use mathlib.Core.Path.{_≡_, refl, _∙_, ap}
-use mathlib.Core.Bool.{Bool, true, false, cond, _&&_}
+use mathlib.Core.Path.{_≡_, refl, sym, _∙_, ap}
+use mathlib.Core.Bool.{Bool, true, false, cond, _&&_, false≢true}
 use mathlib.Core.List.{List, [], _∷_}
 use Prim.Native.Nat.{ℕ, _+_, _*_, _/_, _%_, _^_, _≤_, _<_}
 use native.Mathlib.Nat.{zero-add}
@@ -21,7 +21,7 @@ use Rattle.records.specs.Record.{limit, held, recordPlace}
 use Rattle.typelib.specs.declared.TypeLib.{TypeLib}
 use Rattle.typelib.specs.Tabulate.{length-tabulate, getD-tabulate}
 use Rattle.typelib.specs.Header.{word, tableAt, directoryAt, segmentOffset, segmentLength, typeCount, pairAt, pairsAt, libraryOf}
-use Rattle.typelib.specs.Tables.{lent, segmentPlace, segmentOf, inTable, placeIn, tablePlace}
+use Rattle.typelib.specs.Tables.{lent, segmentPlace, segmentOf, inTable, placeIn, tablePlace, tableOf}
 
 -- ---- over-long bytes
 
@@ -61,36 +61,53 @@ module _ (offset size : ℕ) where
   unfolding segmentPlace
   segment-there h z n = rw (lt-leb 0x80000000 offset h, ne-eqb size 0 z, lt-leb 0x80000000 size n)
 
+-- a table that is not empty is not missing
+pub table-is : (a : Answer Place) (table : Place) → table ≡ tableOf a → 0 < table .len → value table ≡ a
+table-is (value p) table e h = ap value e
+table-is (refused n) table e h = let z : table .len ≡ 0 = ap (λ (p : Place). p .len) e in absurd (omega (arith, h))
+
 -- ---- places in a table
 
+and-left : (a b : Bool) → (a && b) ≡ true → a ≡ true
+and-left true b e = refl
+and-left false b e = e
+
+and-right : (a b : Bool) → (a && b) ≡ true → b ≡ true
+and-right true b e = e
+and-right false b e = absurd (false≢true e)
+
 module _ (s : List ℕ) (table : Place) (end : ℕ) where
-  pub table-out : (strict : Bool) → leb (table .at + end) (length s) ≡ false → false ≡ inTable strict s table end
-  table-out strict h = rw h
+  -- the segment's end is looked at first, and then the file's
+  pub table-past : leb (0 + end) (table .len) ≡ false → false ≡ inTable s table end
+  table-past h = let k : leb end (table .len) ≡ false = ap (λ (n : ℕ). leb n (table .len)) (sym (zero-add end)) ∙ h in rw k
 
-  pub table-file : (strict : Bool) → leb (table .at + end) (length s) ≡ true → strict ≡ false → true ≡ inTable strict s table end
-  table-file strict h e = rw (h, e)
+  pub table-file : (r : Bool) → leb (0 + end) (table .len) ≡ true → r ≡ leb (table .at + end) (length s) → r ≡ inTable s table end
+  table-file r h e = let k : leb end (table .len) ≡ true = ap (λ (n : ℕ). leb n (table .len)) (sym (zero-add end)) ∙ h in rw k e
 
-  pub table-strict : (strict r : Bool) → leb (table .at + end) (length s) ≡ true → strict ≡ true → r ≡ leb (0 + end) (table .len) → r ≡ inTable strict s table end
-  table-strict strict r h e f = rw (h, e) (f ∙ ap (λ (n : ℕ). leb n (table .len)) (zero-add end))
+  pub table-there : end ≤ table .len → table .at + end ≤ length s → inTable s table end ≡ true
+  table-there h k = rw (le-leb end (table .len) h, le-leb (table .at + end) (length s) k)
 
-and-true : (a b : Bool) → (a && b) ≡ true → a ≡ true
-and-true true b e = refl
-and-true false b e = e
+  -- what ends with the table is inside the segment and inside the file
+  pub record InTable : Type 0 where
+    pub segment : end ≤ table .len
+    pub file : table .at + end ≤ length s
 
--- what is inside what bounds the table is inside the file
-pub in-file : (strict : Bool) (s : List ℕ) (table : Place) (end : ℕ) → inTable strict s table end ≡ true → table .at + end ≤ length s
-in-file strict s table end e = leb-true (table .at + end) (length s) (and-true (leb (table .at + end) (length s)) (cond strict (leb end (table .len)) true) e)
+  pub in-table : inTable s table end ≡ true → InTable
+  in-table e =
+      let a : Bool = leb end (table .len) in
+      let b : Bool = leb (table .at + end) (length s) in
+      record { segment = leb-true end (table .len) (and-left a b e); file = leb-true (table .at + end) (length s) (and-right a b e) }
 
-module _ (strict : Bool) (s : List ℕ) (table : Place) (offset size : ℕ) where
-  pub place-negative : 0x80000000 ≤ offset → refused 9 ≡ placeIn strict s table offset size
+module _ (s : List ℕ) (table : Place) (offset size : ℕ) where
+  pub place-negative : 0x80000000 ≤ offset → refused 9 ≡ placeIn s table offset size
   unfolding placeIn
   place-negative h = rw (le-leb 0x80000000 offset h)
 
-  pub place-out : offset < 0x80000000 → inTable strict s table (offset + size) ≡ false → refused 9 ≡ placeIn strict s table offset size
+  pub place-out : offset < 0x80000000 → inTable s table (offset + size) ≡ false → refused 9 ≡ placeIn s table offset size
   unfolding placeIn
   place-out h e = rw (lt-leb 0x80000000 offset h, e)
 
-  pub place-there : offset < 0x80000000 → inTable strict s table (offset + size) ≡ true → value (record { at = table .at + offset; len = size }) ≡ placeIn strict s table offset size
+  pub place-there : offset < 0x80000000 → inTable s table (offset + size) ≡ true → value (record { at = table .at + offset; len = size }) ≡ placeIn s table offset size
   unfolding placeIn
   place-there h e = rw (lt-leb 0x80000000 offset h, e)
 
@@ -106,19 +123,19 @@ Finds s size p a = value p ≡ a → Found s size p
 nothing : (s : List ℕ) (size n : ℕ) (p : Place) → Finds s size p (refused n)
 nothing s size n p e = let z : _≡_ {A = ℕ} 0 1 = cc in absurd (omega arith)
 
-pub found-in : (strict : Bool) (s : List ℕ) (table : Place) (offset size : ℕ) (p : Place) → value p ≡ placeIn strict s table offset size → Found s size p
+pub found-in : (s : List ℕ) (table : Place) (offset size : ℕ) (p : Place) → value p ≡ placeIn s table offset size → Found s size p
 unfolding placeIn
-found-in strict s table offset size p =
+found-in s table offset size p =
     cond-elim (Finds s size p) (leb 0x80000000 offset) _ _ (λ _. nothing s size 9 p) (λ _.
-    cond-elim (Finds s size p) (inTable strict s table (offset + size)) _ _ (λ h e.
+    cond-elim (Finds s size p) (inTable s table (offset + size)) _ _ (λ h e.
     let q : p ≡ record { at = table .at + offset; len = size } = cc in
     let a : p .at ≡ table .at + offset = ap (λ (x : Place). x .at) q in
-    record { inside = omega (arith, in-file strict s table (offset + size) h); whole = ap (λ (x : Place). x .len) q })
+    record { inside = omega (arith, in-table s table (offset + size) h .file); whole = ap (λ (x : Place). x .len) q })
     (λ _. nothing s size 9 p))
 
-found-bind : (strict : Bool) (s : List ℕ) (a : Answer Place) (offset size : ℕ) (p : Place) → value p ≡ bind a (λ table. placeIn strict s table offset size) → Found s size p
-found-bind strict s (value table) offset size p e = found-in strict s table offset size p e
-found-bind strict s (refused n) offset size p e = nothing s size n p e
+found-bind : (s : List ℕ) (a : Answer Place) (offset size : ℕ) (p : Place) → value p ≡ bind a (λ table. placeIn s table offset size) → Found s size p
+found-bind s (value table) offset size p e = found-in s table offset size p e
+found-bind s (refused n) offset size p e = nothing s size n p e
 
 pub record Here (s : List ℕ) (size : ℕ) (p : Place) : Type 0 where
   pub few : length s ≤ limit
@@ -126,13 +143,13 @@ pub record Here (s : List ℕ) (size : ℕ) (p : Place) : Type 0 where
   pub whole : p .len ≡ size
 
 -- bytes that are found in a table are inside lent bytes that are not over-long
-pub found : (strict : Bool) (s : List ℕ) (lib : TypeLib) (k offset size : ℕ) (p : Place) → value p ≡ tablePlace strict s lib k offset size → Here s size p
+pub found : (s : List ℕ) (lib : TypeLib) (k offset size : ℕ) (p : Place) → value p ≡ tablePlace s lib k offset size → Here s size p
 unfolding lent
-found strict s lib k offset size p =
+found s lib k offset size p =
     cond-elim (λ (a : Answer Place). value p ≡ a → Here s size p) (ltb limit (length s)) _ _
     (λ _ e. let z : _≡_ {A = ℕ} 0 1 = cc in absurd (omega arith))
     (λ h e.
-    let f = found-bind strict s (segmentOf lib k) offset size p e in
+    let f = found-bind s (segmentOf lib k) offset size p e in
     record { few = ltb-false limit (length s) h; inside = f .inside; whole = f .whole })
 
 -- ---- signed offsets
@@ -156,14 +173,6 @@ record-lent fixed s at len = go (ltb limit (length s))
     go : (b : Bool) → placed (cond b (refused 1) rest) ≡ cond b (refused 1) (placed (cond b (refused 1) rest))
     go true = refl
     go false = refl
-
-pub record-start : (fixed : ℕ) (s : List ℕ) (at len : ℕ) (p : Place) → value p ≡ recordPlace fixed s at len → p .at ≡ at
-record-start fixed s at len p =
-    held-elim (λ (h : Answer Unit). value p ≡ map (λ _. record { at = at; len = len }) h → p .at ≡ at) s at len fixed
-    (λ h e.
-    let q : p ≡ record { at = at; len = len } = cc in
-    ap (λ (x : Place). x .at) q)
-    (λ n e. let z : _≡_ {A = ℕ} 0 1 = cc in absurd (omega arith))
 
 pub record-inside : (fixed : ℕ) (s : List ℕ) (at len : ℕ) (p : Place) → value p ≡ recordPlace fixed s at len → p .at + p .len ≤ length s
 record-inside fixed s at len p =

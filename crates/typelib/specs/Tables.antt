@@ -1,6 +1,6 @@
 -- The tables of a library, each a segment of the file (Wine's MSFT_SegDir numbers them from 1, the Rust from 0).
 -- Assumes nothing.
-use mathlib.Core.Bool.{Bool, true, cond, _&&_}
+use mathlib.Core.Bool.{Bool, cond, _&&_}
 use mathlib.Core.List.{List}
 use Prim.Native.Nat.{ℕ, _+_}
 use lib.Dec.{leb, ltb, eqb}
@@ -31,20 +31,20 @@ segmentPlace offset size =
 unfoldable pub segmentOf : TypeLib → ℕ → Answer Place
 segmentOf lib k = cond (leb 15 k) (refused 9) (segmentPlace (segmentOffset lib k) (segmentLength lib k))
 
--- What bounds a table: the file's end, and in a strict place (an import, the fixed part of an import file) also the
--- segment's. `end` is counted from the table's start.
-abbrev pub inTable : Bool → List ℕ → Place → ℕ → Bool
-inTable strict s table end = leb (table .at + end) (length s) && cond strict (leb end (table .len)) true
+-- WHERE A TABLE ENDS (document 02, §2): bytes of it end by the segment's end and by the file's, whichever is nearer. `end` is counted
+-- from the table's start.
+abbrev pub inTable : List ℕ → Place → ℕ → Bool
+inTable s table end = leb end (table .len) && leb (table .at + end) (length s)
 
 -- where the `size` bytes at `offset`, a 32-bit pattern, of a table lie
-unfoldable pub placeIn : Bool → List ℕ → Place → ℕ → ℕ → Answer Place
-placeIn strict s table offset size =
+unfoldable pub placeIn : List ℕ → Place → ℕ → ℕ → Answer Place
+placeIn s table offset size =
     cond (negative offset) (refused 9)
-    (cond (inTable strict s table (offset + size)) (value (record { at = table .at + offset; len = size })) (refused 9))
+    (cond (inTable s table (offset + size)) (value (record { at = table .at + offset; len = size })) (refused 9))
 
 -- the same of the table in segment k: 9 where it is missing
-abbrev pub tablePlace : Bool → List ℕ → TypeLib → ℕ → ℕ → ℕ → Answer Place
-tablePlace strict s lib k offset size = lent s (bind (segmentOf lib k) (λ table. placeIn strict s table offset size))
+abbrev pub tablePlace : List ℕ → TypeLib → ℕ → ℕ → ℕ → Answer Place
+tablePlace s lib k offset size = lent s (bind (segmentOf lib k) (λ table. placeIn s table offset size))
 
 abbrev pub tableOf : Answer Place → Place
 tableOf (value p) = p

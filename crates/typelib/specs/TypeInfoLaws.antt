@@ -1,6 +1,5 @@
 -- Laws of `TypeInfos`, a case each. Assumes nothing.
 use mathlib.Core.Path.{_≡_, refl, ap}
-use mathlib.Core.Bool.{false}
 use mathlib.Core.List.{List}
 use mathlib.Core.Option.{Option, some, none}
 use Prim.Native.Nat.{ℕ, _+_, _*_, _≤_, _<_}
@@ -39,7 +38,7 @@ module _ (s : List ℕ) (lib : TypeLib) (offset : ℕ) where
   unfolding typeinfoIn
   typeinfo-negative h = rw (le-leb 0x80000000 offset h)
 
-  pub typeinfo-in : (a : Answer Place) → offset < 0x80000000 → a ≡ bind (refusing 7 (segmentOf lib 0)) (λ table. refusing 8 (placeIn false s table offset 100)) → a ≡ typeinfoIn s lib offset
+  pub typeinfo-in : (a : Answer Place) → offset < 0x80000000 → a ≡ bind (refusing 7 (segmentOf lib 0)) (λ table. refusing 8 (placeIn s table offset 100)) → a ≡ typeinfoIn s lib offset
   unfolding typeinfoIn
   typeinfo-in a h e = rw (lt-leb 0x80000000 offset h) e
 

@@ -1,5 +1,5 @@
 -- Typeinfos, by the offset table, and the arrays behind their members' records. Assumes nothing.
-use mathlib.Core.Bool.{false, cond}
+use mathlib.Core.Bool.{cond}
 use mathlib.Core.List.{List}
 use Prim.Native.Nat.{ℕ, _+_, _*_}
 use Prim.Native.String.{String}
@@ -33,12 +33,12 @@ abbrev pub typeinfoOffset : List ℕ → TypeLib → ℕ → Answer ℕ
 typeinfoOffset s lib index = lent s (offsetWord s lib index)
 
 -- where the typeinfo at an offset of segment 0 lies: 6 where the offset is negative, 7 where the segment is missing, 8 where
--- under 100 bytes are left
+-- under 100 bytes are left of it or of the file
 unfoldable pub typeinfoIn : List ℕ → TypeLib → ℕ → Answer Place
 typeinfoIn s lib offset =
     cond (negative offset) (refused 6)
     (bind (refusing 7 (segmentOf lib 0)) (λ table.
-    refusing 8 (placeIn false s table offset (sizeOf typeInfoBase))))
+    refusing 8 (placeIn s table offset (sizeOf typeInfoBase))))
 
 -- 6 where the index is not below the count, or its word not inside the bytes
 abbrev pub typeinfoOf : List ℕ → TypeLib → ℕ → Answer Place

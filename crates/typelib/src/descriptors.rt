@@ -69,7 +69,7 @@ impl TypeLib {
 pub fn type_desc_at(lib: &Numbers, s: &[u8], offset: u32) -> PairAnswer
     ensures { λ r. ⌜ toldPair r ≡ typeDescAt (now (s .entry)) (library (now (lib .entry))) offset ⌝ }
 {
-    match tables::table_place(lib, s, TYPE_TABLE, offset, 8, false) {
+    match tables::table_place(lib, s, TYPE_TABLE, offset, 8) {
         PlaceAnswer::Value(place) => {
             let at = place.at;
             let first = util::u32_or_zero(s, at);
@@ -84,10 +84,10 @@ pub fn type_desc_at(lib: &Numbers, s: &[u8], offset: u32) -> PairAnswer
 pub fn array_desc_at(lib: &Numbers, s: &[u8], offset: u32) -> ArrayDescAnswer
     ensures { λ r. ⌜ toldArrayDesc r ≡ arrayDescAt (now (s .entry)) (library (now (lib .entry))) offset ⌝ }
 {
-    match tables::table_place(lib, s, ARRAY_TABLE, offset, 8, false) {
+    match tables::table_place(lib, s, ARRAY_TABLE, offset, 8) {
         PlaceAnswer::Value(head) => {
             let dimensions = util::u16_or_zero(s, head.at + 4) as usize;
-            match tables::table_place(lib, s, ARRAY_TABLE, offset, 8 + 8 * dimensions, false) {
+            match tables::table_place(lib, s, ARRAY_TABLE, offset, 8 + 8 * dimensions) {
                 PlaceAnswer::Value(place) => ArrayDescAnswer::Value(ArrayDesc {
                     at: place.at,
                     len: place.len,

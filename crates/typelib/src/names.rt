@@ -119,7 +119,7 @@ impl TypeLib {
 pub fn name_at(lib: &Numbers, s: &[u8], offset: u32) -> PlaceAnswer
     ensures { λ r. ⌜ toldPlace r ≡ nameBytes (now (s .entry)) (library (now (lib .entry))) offset ⌝ }
 {
-    match tables::table_place(lib, s, NAME_TABLE, offset, 9, false) {
+    match tables::table_place(lib, s, NAME_TABLE, offset, 9) {
         PlaceAnswer::Value(intro) => {
             let len = util::u8_or_zero(s, intro.at + 8) as usize;
             name_behind(lib, s, offset, len)
@@ -132,7 +132,7 @@ fn name_behind(lib: &Numbers, s: &[u8], offset: u32, len: usize) -> PlaceAnswer
     requires { ⌜ len < 256 ⌝ }
     ensures { λ r. ⌜ toldPlace r ≡ nameBehind (now (s .entry)) (library (now (lib .entry))) offset len ⌝ }
 {
-    match tables::table_place(lib, s, NAME_TABLE, offset, 12 + len, false) {
+    match tables::table_place(lib, s, NAME_TABLE, offset, 12 + len) {
         PlaceAnswer::Value(entry) => PlaceAnswer::Value(Place {
             at: entry.at + 12,
             len,
@@ -144,7 +144,7 @@ fn name_behind(lib: &Numbers, s: &[u8], offset: u32, len: usize) -> PlaceAnswer
 fn string_at(lib: &Numbers, s: &[u8], offset: u32) -> PlaceAnswer
     ensures { λ r. ⌜ toldPlace r ≡ stringBytes (now (s .entry)) (library (now (lib .entry))) offset ⌝ }
 {
-    match tables::table_place(lib, s, STRING_TABLE, offset, 2, false) {
+    match tables::table_place(lib, s, STRING_TABLE, offset, 2) {
         PlaceAnswer::Value(place) => {
             let len = util::u16_or_zero(s, place.at) as usize;
             string_behind(lib, s, offset, len)
@@ -157,7 +157,7 @@ fn string_behind(lib: &Numbers, s: &[u8], offset: u32, len: usize) -> PlaceAnswe
     requires { ⌜ len < 65536 ⌝ }
     ensures { λ r. ⌜ toldPlace r ≡ stringBehind (now (s .entry)) (library (now (lib .entry))) offset len ⌝ }
 {
-    match tables::table_place(lib, s, STRING_TABLE, offset, 2 + len, false) {
+    match tables::table_place(lib, s, STRING_TABLE, offset, 2 + len) {
         PlaceAnswer::Value(entry) => PlaceAnswer::Value(Place {
             at: entry.at + 2,
             len,
@@ -169,7 +169,7 @@ fn string_behind(lib: &Numbers, s: &[u8], offset: u32, len: usize) -> PlaceAnswe
 pub fn guid_at(lib: &Numbers, s: &[u8], offset: u32) -> PlaceAnswer
     ensures { λ r. ⌜ toldPlace r ≡ guidPlace (now (s .entry)) (library (now (lib .entry))) offset ⌝ }
 {
-    tables::table_place(lib, s, GUID_TABLE, offset, 16, false)
+    tables::table_place(lib, s, GUID_TABLE, offset, 16)
 }
 
 // The refusal, or 1 where more bytes than the limit are lent.

@@ -78,17 +78,10 @@ impl TypeLib {
 pub fn imp_file_at(lib: &Numbers, s: &[u8], offset: u32) -> ImpFileAnswer
     ensures { λ r. ⌜ toldImpFile r ≡ impFileAt (now (s .entry)) (library (now (lib .entry))) offset ⌝ }
 {
-    match tables::table_place(lib, s, IMPORT_FILES, offset, 14, true) {
+    match tables::table_place(lib, s, IMPORT_FILES, offset, 14) {
         PlaceAnswer::Value(head) => {
             let name = (util::u16_or_zero(s, head.at + 12) / 4) as usize;
-            match tables::table_place(
-                lib,
-                s,
-                IMPORT_FILES,
-                offset,
-                (name + 14 + 3) / 4 * 4,
-                false,
-            ) {
+            match tables::table_place(lib, s, IMPORT_FILES, offset, (name + 14 + 3) / 4 * 4) {
                 PlaceAnswer::Value(place) => ImpFileAnswer::Value(ImpFile {
                     at: place.at,
                     len: place.len,
@@ -148,7 +141,7 @@ fn resolve_cleared(lib: &Numbers, s: &[u8], href: u32) -> ResolvedAnswer
 fn import_at(lib: &Numbers, s: &[u8], offset: ImportOffset) -> ResolvedAnswer
     ensures { λ r. ⌜ toldResolved r ≡ importAt (now (s .entry)) (library (now (lib .entry))) (offset .0) ⌝ }
 {
-    match tables::table_place(lib, s, IMPORT_TABLE, offset.0, 12, true) {
+    match tables::table_place(lib, s, IMPORT_TABLE, offset.0, 12) {
         PlaceAnswer::Value(place) => {
             let info = ImpInfo {
                 at: place.at,

@@ -66,34 +66,27 @@ pub fn table(lib: &Numbers, index: usize) -> Place
 }
 
 // The way to the bytes of a table: where the `size` bytes at `offset` of segment `index` lie.
-pub fn table_place(
-    lib: &Numbers,
-    s: &[u8],
-    index: usize,
-    offset: u32,
-    size: usize,
-    strict: bool,
-) -> PlaceAnswer
-    ensures { λ r. ⌜ toldPlace r ≡ tablePlace strict (now (s .entry)) (library (now (lib .entry))) index offset size ⌝ }
+pub fn table_place(lib: &Numbers, s: &[u8], index: usize, offset: u32, size: usize) -> PlaceAnswer
+    ensures { λ r. ⌜ toldPlace r ≡ tablePlace (now (s .entry)) (library (now (lib .entry))) index offset size ⌝ }
 {
     if LIMIT < s.len() {
         return PlaceAnswer::Refused(1);
     }
     match segment(lib, index) {
-        PlaceAnswer::Value(table) => place_in(s, table, offset, size, strict),
+        PlaceAnswer::Value(table) => place_in(s, table, offset, size),
         PlaceAnswer::Refused(n) => PlaceAnswer::Refused(n),
     }
 }
 
 // Where the `size` bytes at `offset` of a table lie.
-pub fn place_in(s: &[u8], table: Place, offset: u32, size: usize, strict: bool) -> PlaceAnswer
-    ensures { λ r. ⌜ toldPlace r ≡ placeIn strict (now (s .entry)) table offset size ⌝ }
+pub fn place_in(s: &[u8], table: Place, offset: u32, size: usize) -> PlaceAnswer
+    ensures { λ r. ⌜ toldPlace r ≡ placeIn (now (s .entry)) table offset size ⌝ }
 {
     if NEGATIVE <= offset {
         return PlaceAnswer::Refused(9);
     }
     let from = offset as usize;
-    if in_table(s, table, from, size, strict) {
+    if in_table(s, table, from, size) {
         return PlaceAnswer::Value(Place {
             at: table.at + from,
             len: size,
@@ -102,15 +95,12 @@ pub fn place_in(s: &[u8], table: Place, offset: u32, size: usize, strict: bool) 
     PlaceAnswer::Refused(9)
 }
 
-// Whether the `size` bytes at `from` of a table end inside what bounds it.
-fn in_table(s: &[u8], table: Place, from: usize, size: usize, strict: bool) -> bool
-    ensures { λ r. ⌜ r ≡ inTable strict (now (s .entry)) table (from + size) ⌝ }
+// Whether the `size` bytes at `from` of a table end with the table and with the file. Nothing else says where a table ends.
+fn in_table(s: &[u8], table: Place, from: usize, size: usize) -> bool
+    ensures { λ r. ⌜ r ≡ inTable (now (s .entry)) table (from + size) ⌝ }
 {
-    if reaches(s.len(), table.at, from, size) {
-        if strict {
-            return reaches(table.len, 0, from, size);
-        }
-        return true;
+    if reaches(table.len, 0, from, size) {
+        return reaches(s.len(), table.at, from, size);
     }
     false
 }

@@ -125,7 +125,7 @@ fn typeinfo_in(lib: &Numbers, s: &[u8], offset: TypeInfoOffset) -> TypeInfoAnswe
         return TypeInfoAnswer::Refused(6);
     }
     match tables::segment(lib, TYPEINFO_TABLE) {
-        PlaceAnswer::Value(table) => match tables::place_in(s, table, offset.0, 0x64, false) {
+        PlaceAnswer::Value(table) => match tables::place_in(s, table, offset.0, 0x64) {
             PlaceAnswer::Value(place) => TypeInfoAnswer::Value(TypeInfoEntry {
                 at: place.at,
                 len: place.len,

@@ -1,7 +1,6 @@
 use Rattle.typelib.specs.Header.{library}
 use native.Mathlib.Omega.{arith}
 use mathlib.Core.Path.{_∙_, ap}
-use mathlib.Core.Bool.{false}
 use Rattle.util.specs.Read.{read-zero}
 use Rattle.records.specs.AnswerLaws.{tells, bind-value, bind-refused}
 use Rattle.records.specs.Told.{toldPlace}
@@ -27,7 +26,7 @@ enum-known-n : tie.Need-enum-known-n
 enum-known-n c = search needs
 
 returns : tie.Need-returns
-returns c = let e = tells toldPlace (c .before .before .before .place .given .1) (c .before .before .before .before .before .table-place .ensures) in bind-value _ _ _ _ e (c .value-behind .ensures ∙ ap (valueBehind (c .before .before .before .before .before .before .before .args .s .now) (library (c .before .before .before .before .before .before .before .args .lib .now)) (c .before .before .before .before .before .before .before .args .offset)) (read-zero 2 (c .before .before .before .before .before .before .before .args .s .now) (c .before .before .before .place .given .0 .0 .at) _ (let h = found false (c .before .before .before .before .before .before .before .args .s .now) (library (c .before .before .before .before .before .before .before .args .lib .now)) 11 (c .before .before .before .before .before .before .before .args .offset) 2 (c .before .before .before .place .given .0 .0) e in omega arith) (c .before .u16-or-zero .ensures)))
+returns c = let e = tells toldPlace (c .before .before .before .place .given .1) (c .before .before .before .before .before .table-place .ensures) in bind-value _ _ _ _ e (c .value-behind .ensures ∙ ap (valueBehind (c .before .before .before .before .before .before .before .args .s .now) (library (c .before .before .before .before .before .before .before .args .lib .now)) (c .before .before .before .before .before .before .before .args .offset)) (read-zero 2 (c .before .before .before .before .before .before .before .args .s .now) (c .before .before .before .place .given .0 .0 .at) _ (let h = found (c .before .before .before .before .before .before .before .args .s .now) (library (c .before .before .before .before .before .before .before .args .lib .now)) 11 (c .before .before .before .before .before .before .before .args .offset) 2 (c .before .before .before .place .given .0 .0) e in omega arith) (c .before .u16-or-zero .ensures)))
 
 returns-2 : tie.Need-returns-2
 returns-2 c = bind-refused _ _ _ (tells toldPlace (c .before .n .given .1) (c .before .before .before .table-place .ensures))

@@ -2,7 +2,6 @@ use Rattle.typelib.specs.Header.{library}
 use native.Mathlib.Omega.{arith}
 use Prim.Native.Nat.{_+_}
 use mathlib.Core.Path.{refl}
-use mathlib.Core.Bool.{false}
 use Rattle.records.specs.AnswerLaws.{tells, map-value, map-refused}
 use Rattle.records.specs.Told.{toldPlace}
 use Rattle.typelib.specs.TableLaws.{found}
@@ -27,7 +26,7 @@ enum-known-place : tie.Need-enum-known-place
 enum-known-place c = search needs
 
 add-at : tie.Need-add-at
-add-at c = let h = found false (c .before .before .before .before .before .before .before .before .args .s .now) (library (c .before .before .before .before .before .before .before .before .args .lib .now)) 11 (c .before .before .before .before .before .before .before .before .args .offset) (6 + c .before .before .before .before .before .before .before .before .args .length) (c .before .before .place .given .0 .0) (tells toldPlace (c .before .before .place .given .1) (c .before .before .before .before .table-place .ensures)) in omega arith
+add-at c = let h = found (c .before .before .before .before .before .before .before .before .args .s .now) (library (c .before .before .before .before .before .before .before .before .args .lib .now)) 11 (c .before .before .before .before .before .before .before .before .args .offset) (6 + c .before .before .before .before .before .before .before .before .args .length) (c .before .before .place .given .0 .0) (tells toldPlace (c .before .before .place .given .1) (c .before .before .before .before .table-place .ensures)) in omega arith
 
 enum-known-n : tie.Need-enum-known-n
 enum-known-n c = search needs

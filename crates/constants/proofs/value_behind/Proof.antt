@@ -7,7 +7,6 @@ use Rattle.records.specs.Answer.{value}
 use Rattle.records.specs.Told.{toldPlace}
 use Rattle.records.specs.AnswerLaws.{tells, bind-value, bind-refused}
 use Rattle.util.specs.Read.{read-zero}
-use mathlib.Core.Bool.{false}
 use mathlib.Core.Path.{_≡_, _∙_, ap}
 use Prim.Native.Nat.{ℕ, _+_}
 use native.Mathlib.Omega.{arith}
@@ -16,14 +15,14 @@ use Rattle.constants.proofs.value_behind.Statement.{statement}
 use Rattle.constants.proofs.value_behind.Tie as tie
 
 -- the place of the code and the value behind it
-given : (c : tie.After-struct-known) → value (c .before .before .place .given .0 .0) ≡ tablePlace false (c .before .before .before .before .before .before .before .args .s .now) (library (c .before .before .before .before .before .before .before .args .lib .now)) 11 (c .before .before .before .before .before .before .before .args .offset) (2 + storedWidth (c .before .before .before .before .before .before .before .args .vt))
+given : (c : tie.After-struct-known) → value (c .before .before .place .given .0 .0) ≡ tablePlace (c .before .before .before .before .before .before .before .args .s .now) (library (c .before .before .before .before .before .before .before .args .lib .now)) 11 (c .before .before .before .before .before .before .before .args .offset) (2 + storedWidth (c .before .before .before .before .before .before .before .args .vt))
 given c =
     let a = c .before .before .before .before .before .before .before .args in
     tells toldPlace (c .before .before .place .given .1) (c .before .before .before .before .table-place .ensures)
-    ∙ ap (λ (n : ℕ). tablePlace false (a .s .now) (library (a .lib .now)) 11 (a .offset) (2 + n)) (c .before .before .before .before .before .stored-width .ensures .0)
+    ∙ ap (λ (n : ℕ). tablePlace (a .s .now) (library (a .lib .now)) 11 (a .offset) (2 + n)) (c .before .before .before .before .before .stored-width .ensures .0)
 
 here : (c : tie.After-struct-known) → Here (c .before .before .before .before .before .before .before .args .s .now) (2 + storedWidth (c .before .before .before .before .before .before .before .args .vt)) (c .before .before .place .given .0 .0)
-here c = found false _ _ _ _ _ _ (given c)
+here c = found _ _ _ _ _ _ (given c)
 
 stored-width-requires : tie.Need-stored-width-requires
 stored-width-requires c κs = search needs
@@ -79,7 +78,7 @@ returns-4 : tie.Need-returns-4
 returns-4 c =
     let a = c .before .before .before .before .before .before .args in
     bind-refused _ _ _ (tells toldPlace (c .before .n .given .1) (c .before .before .before .table-place .ensures)
-    ∙ ap (λ (n : ℕ). tablePlace false (a .s .now) (library (a .lib .now)) 11 (a .offset) (2 + n)) (c .before .before .before .before .stored-width .ensures .0))
+    ∙ ap (λ (n : ℕ). tablePlace (a .s .now) (library (a .lib .now)) 11 (a .offset) (2 + n)) (c .before .before .before .before .stored-width .ensures .0))
 
 pub value-behind-spec : {M : Type 1} → statement M
 value-behind-spec =

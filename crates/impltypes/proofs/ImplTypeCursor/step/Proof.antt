@@ -17,7 +17,7 @@ enum-known-place : tie.Need-enum-known-place
 enum-known-place c = search needs
 
 next-offset-requires : tie.Need-next-offset-requires
-next-offset-requires c κs = found-in _ _ _ _ _ _ (tells toldPlace (c .before .place .given .1) (c .before .before .before .reference-at .ensures)) .inside
+next-offset-requires c κs = found-in _ _ _ _ _ (tells toldPlace (c .before .place .given .1) (c .before .before .before .reference-at .ensures)) .inside
 
 enum-known-n : tie.Need-enum-known-n
 enum-known-n c = search needs

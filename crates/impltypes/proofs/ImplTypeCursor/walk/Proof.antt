@@ -34,7 +34,7 @@ returns-2 : tie.Need-returns-2 Inv-loop μ-loop
 returns-2 c = stands-last _ _ _ _ (c .before .before .before .loop .inv) _ (c .before .before .before .before .before .if1 .left) (tells toldPlace (c .enum-told .given .1) (c .before .before .reference-at .ensures))
 
 sub-if2 : tie.Need-sub-if2 Inv-loop μ-loop
-sub-if2 c = let f = found-in _ _ _ _ _ _ (tells toldPlace (c .before .place .given .1) (c .before .before .before .reference-at .ensures)) in omega arith
+sub-if2 c = let f = found-in _ _ _ _ _ (tells toldPlace (c .before .place .given .1) (c .before .before .before .reference-at .ensures)) in omega arith
 
 returns-3 : tie.Need-returns-3 Inv-loop μ-loop
 returns-3 c = stands-round _ _ _ _ (c .before .before .before .before .before .loop .inv) _ (c .before .before .before .before .before .before .before .if1 .left) (tells toldPlace (c .before .before .place .given .1) (c .before .before .before .before .reference-at .ensures)) (c .if2 .taken)
@@ -43,7 +43,7 @@ add-n : tie.Need-add-n Inv-loop μ-loop
 add-n c = omega arith
 
 next-offset-requires : tie.Need-next-offset-requires Inv-loop μ-loop
-next-offset-requires c κs = found-in _ _ _ _ _ _ (tells toldPlace (c .before .before .place .given .1) (c .before .before .before .before .reference-at .ensures)) .inside
+next-offset-requires c κs = found-in _ _ _ _ _ (tells toldPlace (c .before .before .place .given .1) (c .before .before .before .before .reference-at .ensures)) .inside
 
 loop-less : tie.Need-loop-less Inv-loop μ-loop
 loop-less c = omega arith

@@ -1,14 +1,11 @@
 use Rattle.cursors.specs.CursorLaws.{fixed}
-use Rattle.table_cursors.specs.CursorLaws.{name-before, name-none, name-some}
+use Rattle.table_cursors.specs.CursorLaws.{name-before, name-none, name-some, name-text}
 use Rattle.typelib.specs.TableLaws.{lent-long, lent-fits}
 use Rattle.records.specs.Told.{toldPlace}
 use Rattle.records.specs.AnswerLaws.{tells, map-value, map-refused}
-use Rattle.records.specs.Record.{recordPlace}
-use Rattle.records.specs.Counted.{textOf}
 use Rattle.util.specs.Read.{read-zero}
 use native.Mathlib.Omega.{arith}
-use Prim.Native.Nat.{ℕ, _+_}
-use mathlib.Core.Path.{_∙_, ap}
+use Prim.Native.Nat.{_+_}
 use borrow.Author.Needs.{needs}
 use Rattle.table_cursors.proofs.iterators.name_entry.Statement.{statement}
 use Rattle.table_cursors.proofs.iterators.name_entry.Tie as tie
@@ -34,11 +31,8 @@ u8-or-zero-requires c κs = search needs
 cast-len : tie.Need-cast-len
 cast-len c = search needs
 
-add-record-place : tie.Need-add-record-place
-add-record-place c = let h = fixed (c .before .before .before .before .before .before .before .before .args .s .now) (c .before .before .before .before .before .before .before .before .args .c .pos) (c .before .before .before .before .before .before .before .before .args .c .end) 12 _ (tells toldPlace (c .before .enum-told .given .1) (c .before .before .before .fixed-at .ensures)) in omega arith
-
-record-place-requires : tie.Need-record-place-requires
-record-place-requires c κs = search needs
+text-behind-requires : tie.Need-text-behind-requires
+text-behind-requires c κs = search needs
 
 text-requires : tie.Need-text-requires
 text-requires c κs = search needs
@@ -56,10 +50,10 @@ enum-known-n-2 : tie.Need-enum-known-n-2
 enum-known-n-2 c = search needs
 
 returns-3 : tie.Need-returns-3
-returns-3 c = lent-fits _ _ _ (c .before .before .before .before .before .before .before .before .before .before .before .before .if1 .left) (name-some (c .before .before .before .before .before .before .before .before .before .before .before .before .before .before .args .s .now) (c .before .before .before .before .before .before .before .before .before .before .before .before .before .before .args .c) _ _ (c .before .before .before .before .before .before .before .before .before .before .if2 .left) (tells toldPlace (c .before .before .before .before .before .before .before .enum-told .given .1) (c .before .before .before .before .before .before .before .before .before .fixed-at .ensures)) (map-value _ _ _ _ (tells toldPlace (c .before .before .text2 .given .1) (c .before .before .before .before .text .ensures ∙ ap (textOf (c .before .before .before .before .before .before .before .before .before .before .before .before .before .before .args .s .now)) (c .before .before .before .before .before .record-place .ensures ∙ ap (λ (n : ℕ). recordPlace 0 (c .before .before .before .before .before .before .before .before .before .before .before .before .before .before .args .s .now) ((c .before .before .before .before .before .before .before .before .before .before .before .before .before .before .args .c .pos) + 12) n) (read-zero 1 (c .before .before .before .before .before .before .before .before .before .before .before .before .before .before .args .s .now) ((c .before .before .before .before .before .before .before .before .before .before .before .before .before .before .args .c .pos) + 8) _ (let h = fixed (c .before .before .before .before .before .before .before .before .before .before .before .before .before .before .args .s .now) (c .before .before .before .before .before .before .before .before .before .before .before .before .before .before .args .c .pos) (c .before .before .before .before .before .before .before .before .before .before .before .before .before .before .args .c .end) 12 _ (tells toldPlace (c .before .before .before .before .before .before .before .enum-told .given .1) (c .before .before .before .before .before .before .before .before .before .fixed-at .ensures)) in omega arith) (c .before .before .before .before .before .before .u8-or-zero .ensures))))) (c .name-entry-from .ensures)))
+returns-3 c = lent-fits _ _ _ (c .before .before .before .before .before .before .before .before .before .before .before .before .if1 .left) (name-some (c .before .before .before .before .before .before .before .before .before .before .before .before .before .before .args .s .now) (c .before .before .before .before .before .before .before .before .before .before .before .before .before .before .args .c) _ _ (c .before .before .before .before .before .before .before .before .before .before .if2 .left) (tells toldPlace (c .before .before .before .before .before .before .before .enum-told .given .1) (c .before .before .before .before .before .before .before .before .before .fixed-at .ensures)) (map-value _ _ _ _ (tells toldPlace (c .before .before .text2 .given .1) (name-text (c .before .before .before .before .before .before .before .before .before .before .before .before .before .before .args .s .now) (c .before .before .before .before .before .before .before .before .before .before .before .before .before .before .args .c) _ _ _ (c .before .before .before .before .before .before .before .before .before .before .before .before .if1 .left) (read-zero 1 (c .before .before .before .before .before .before .before .before .before .before .before .before .before .before .args .s .now) ((c .before .before .before .before .before .before .before .before .before .before .before .before .before .before .args .c) .pos + 8) _ (let h = fixed (c .before .before .before .before .before .before .before .before .before .before .before .before .before .before .args .s .now) ((c .before .before .before .before .before .before .before .before .before .before .before .before .before .before .args .c) .pos) ((c .before .before .before .before .before .before .before .before .before .before .before .before .before .before .args .c) .end) 12 _ (tells toldPlace (c .before .before .before .before .before .before .before .enum-told .given .1) (c .before .before .before .before .before .before .before .before .before .fixed-at .ensures)) in omega arith) (c .before .before .before .before .before .before .u8-or-zero .ensures)) (c .before .before .before .before .before .text-behind .ensures) (c .before .before .before .before .text .ensures))) (c .name-entry-from .ensures)))
 
 returns-4 : tie.Need-returns-4
-returns-4 c = lent-fits _ _ _ (c .before .before .before .before .before .before .before .before .before .before .before .if1 .left) (name-some (c .before .before .before .before .before .before .before .before .before .before .before .before .before .args .s .now) (c .before .before .before .before .before .before .before .before .before .before .before .before .before .args .c) _ _ (c .before .before .before .before .before .before .before .before .before .if2 .left) (tells toldPlace (c .before .before .before .before .before .before .enum-told .given .1) (c .before .before .before .before .before .before .before .before .fixed-at .ensures)) (map-refused _ _ _ (tells toldPlace (c .before .n .given .1) (c .before .before .before .text .ensures ∙ ap (textOf (c .before .before .before .before .before .before .before .before .before .before .before .before .before .args .s .now)) (c .before .before .before .before .record-place .ensures ∙ ap (λ (n : ℕ). recordPlace 0 (c .before .before .before .before .before .before .before .before .before .before .before .before .before .args .s .now) ((c .before .before .before .before .before .before .before .before .before .before .before .before .before .args .c .pos) + 12) n) (read-zero 1 (c .before .before .before .before .before .before .before .before .before .before .before .before .before .args .s .now) ((c .before .before .before .before .before .before .before .before .before .before .before .before .before .args .c .pos) + 8) _ (let h = fixed (c .before .before .before .before .before .before .before .before .before .before .before .before .before .args .s .now) (c .before .before .before .before .before .before .before .before .before .before .before .before .before .args .c .pos) (c .before .before .before .before .before .before .before .before .before .before .before .before .before .args .c .end) 12 _ (tells toldPlace (c .before .before .before .before .before .before .enum-told .given .1) (c .before .before .before .before .before .before .before .before .fixed-at .ensures)) in omega arith) (c .before .before .before .before .before .u8-or-zero .ensures)))))))
+returns-4 c = lent-fits _ _ _ (c .before .before .before .before .before .before .before .before .before .before .before .if1 .left) (name-some (c .before .before .before .before .before .before .before .before .before .before .before .before .before .args .s .now) (c .before .before .before .before .before .before .before .before .before .before .before .before .before .args .c) _ _ (c .before .before .before .before .before .before .before .before .before .if2 .left) (tells toldPlace (c .before .before .before .before .before .before .enum-told .given .1) (c .before .before .before .before .before .before .before .before .fixed-at .ensures)) (map-refused _ _ _ (tells toldPlace (c .before .n .given .1) (name-text (c .before .before .before .before .before .before .before .before .before .before .before .before .before .args .s .now) (c .before .before .before .before .before .before .before .before .before .before .before .before .before .args .c) _ _ _ (c .before .before .before .before .before .before .before .before .before .before .before .if1 .left) (read-zero 1 (c .before .before .before .before .before .before .before .before .before .before .before .before .before .args .s .now) ((c .before .before .before .before .before .before .before .before .before .before .before .before .before .args .c) .pos + 8) _ (let h = fixed (c .before .before .before .before .before .before .before .before .before .before .before .before .before .args .s .now) ((c .before .before .before .before .before .before .before .before .before .before .before .before .before .args .c) .pos) ((c .before .before .before .before .before .before .before .before .before .before .before .before .before .args .c) .end) 12 _ (tells toldPlace (c .before .before .before .before .before .before .enum-told .given .1) (c .before .before .before .before .before .before .before .before .fixed-at .ensures)) in omega arith) (c .before .before .before .before .before .u8-or-zero .ensures)) (c .before .before .before .before .text-behind .ensures) (c .before .before .before .text .ensures)))))
 
 returns-5 : tie.Need-returns-5
 returns-5 c = lent-fits _ _ _ (c .before .before .before .before .before .before .if1 .left) (name-none (c .before .before .before .before .before .before .before .before .args .s .now) (c .before .before .before .before .before .before .before .before .args .c) _ (c .before .before .before .before .before .before .if1 .left) (c .before .before .before .before .if2 .left) (tells toldPlace (c .before .n2 .given .1) (c .before .before .before .fixed-at .ensures)))
@@ -75,8 +69,7 @@ name-entry-spec =
     add-u8-or-zero
     u8-or-zero-requires
     cast-len
-    add-record-place
-    record-place-requires
+    text-behind-requires
     text-requires
     enum-known-text
     name-entry-from-requires

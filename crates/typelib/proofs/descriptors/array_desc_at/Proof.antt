@@ -6,7 +6,6 @@ use Rattle.typelib.specs.Tables.{tablePlace}
 use Rattle.util.specs.Read.{read-zero}
 use native.Mathlib.Omega.{arith}
 use Prim.Native.Nat.{ℕ, _+_, _*_}
-use mathlib.Core.Bool.{false}
 use mathlib.Core.Path.{_∙_, ap}
 use borrow.Author.Needs.{needs}
 use Rattle.typelib.proofs.descriptors.array_desc_at.Statement.{statement}
@@ -19,7 +18,7 @@ enum-known-head : tie.Need-enum-known-head
 enum-known-head c = search needs
 
 add-u16-or-zero : tie.Need-add-u16-or-zero
-add-u16-or-zero c = let h = found false (c .before .before .before .before .before .before .args .s .now) (library (c .before .before .before .before .before .before .args .lib .now)) 10 (c .before .before .before .before .before .before .args .offset) 8 (c .before .before .head .given .0 .0) (tells toldPlace (c .before .before .head .given .1) (c .before .before .before .before .table-place .ensures)) in omega arith
+add-u16-or-zero c = let h = found (c .before .before .before .before .before .before .args .s .now) (library (c .before .before .before .before .before .before .args .lib .now)) 10 (c .before .before .before .before .before .before .args .offset) 8 (c .before .before .head .given .0 .0) (tells toldPlace (c .before .before .head .given .1) (c .before .before .before .before .table-place .ensures)) in omega arith
 
 u16-or-zero-requires : tie.Need-u16-or-zero-requires
 u16-or-zero-requires c κs = search needs
@@ -46,10 +45,10 @@ enum-known-n-2 : tie.Need-enum-known-n-2
 enum-known-n-2 c = search needs
 
 returns : tie.Need-returns
-returns c = bind-value _ _ _ _ (tells toldPlace (c .before .before .before .before .before .before .before .head .given .1) (c .before .before .before .before .before .before .before .before .before .table-place .ensures)) ((tells toldPlace (c .before .place .given .1) (c .before .before .before .table-place2 .ensures)) ∙ ap (λ (n : ℕ). tablePlace false (c .before .before .before .before .before .before .before .before .before .before .before .args .s .now) (library (c .before .before .before .before .before .before .before .before .before .before .before .args .lib .now)) 10 (c .before .before .before .before .before .before .before .before .before .before .before .args .offset) (8 + 8 * n)) (read-zero 2 (c .before .before .before .before .before .before .before .before .before .before .before .args .s .now) (c .before .before .before .before .before .before .before .head .given .0 .0 .at + 4) _ (let h = found false (c .before .before .before .before .before .before .before .before .before .before .before .args .s .now) (library (c .before .before .before .before .before .before .before .before .before .before .before .args .lib .now)) 10 (c .before .before .before .before .before .before .before .before .before .before .before .args .offset) 8 (c .before .before .before .before .before .before .before .head .given .0 .0) (tells toldPlace (c .before .before .before .before .before .before .before .head .given .1) (c .before .before .before .before .before .before .before .before .before .table-place .ensures)) in omega arith) (c .before .before .before .before .u16-or-zero .ensures)))
+returns c = bind-value _ _ _ _ (tells toldPlace (c .before .before .before .before .before .before .before .head .given .1) (c .before .before .before .before .before .before .before .before .before .table-place .ensures)) ((tells toldPlace (c .before .place .given .1) (c .before .before .before .table-place2 .ensures)) ∙ ap (λ (n : ℕ). tablePlace (c .before .before .before .before .before .before .before .before .before .before .before .args .s .now) (library (c .before .before .before .before .before .before .before .before .before .before .before .args .lib .now)) 10 (c .before .before .before .before .before .before .before .before .before .before .before .args .offset) (8 + 8 * n)) (read-zero 2 (c .before .before .before .before .before .before .before .before .before .before .before .args .s .now) (c .before .before .before .before .before .before .before .head .given .0 .0 .at + 4) _ (let h = found (c .before .before .before .before .before .before .before .before .before .before .before .args .s .now) (library (c .before .before .before .before .before .before .before .before .before .before .before .args .lib .now)) 10 (c .before .before .before .before .before .before .before .before .before .before .before .args .offset) 8 (c .before .before .before .before .before .before .before .head .given .0 .0) (tells toldPlace (c .before .before .before .before .before .before .before .head .given .1) (c .before .before .before .before .before .before .before .before .before .table-place .ensures)) in omega arith) (c .before .before .before .before .u16-or-zero .ensures)))
 
 returns-2 : tie.Need-returns-2
-returns-2 c = bind-value _ _ _ _ (tells toldPlace (c .before .before .before .before .before .before .before .head .given .1) (c .before .before .before .before .before .before .before .before .before .table-place .ensures)) (tells toldPlace (c .before .n .given .1) (c .before .before .before .table-place2 .ensures) ∙ ap (λ (n : ℕ). tablePlace false (c .before .before .before .before .before .before .before .before .before .before .before .args .s .now) (library (c .before .before .before .before .before .before .before .before .before .before .before .args .lib .now)) 10 (c .before .before .before .before .before .before .before .before .before .before .before .args .offset) (8 + 8 * n)) (read-zero 2 (c .before .before .before .before .before .before .before .before .before .before .before .args .s .now) (c .before .before .before .before .before .before .before .head .given .0 .0 .at + 4) _ (let h = found false (c .before .before .before .before .before .before .before .before .before .before .before .args .s .now) (library (c .before .before .before .before .before .before .before .before .before .before .before .args .lib .now)) 10 (c .before .before .before .before .before .before .before .before .before .before .before .args .offset) 8 (c .before .before .before .before .before .before .before .head .given .0 .0) (tells toldPlace (c .before .before .before .before .before .before .before .head .given .1) (c .before .before .before .before .before .before .before .before .before .table-place .ensures)) in omega arith) (c .before .before .before .before .u16-or-zero .ensures)))
+returns-2 c = bind-value _ _ _ _ (tells toldPlace (c .before .before .before .before .before .before .before .head .given .1) (c .before .before .before .before .before .before .before .before .before .table-place .ensures)) (tells toldPlace (c .before .n .given .1) (c .before .before .before .table-place2 .ensures) ∙ ap (λ (n : ℕ). tablePlace (c .before .before .before .before .before .before .before .before .before .before .before .args .s .now) (library (c .before .before .before .before .before .before .before .before .before .before .before .args .lib .now)) 10 (c .before .before .before .before .before .before .before .before .before .before .before .args .offset) (8 + 8 * n)) (read-zero 2 (c .before .before .before .before .before .before .before .before .before .before .before .args .s .now) (c .before .before .before .before .before .before .before .head .given .0 .0 .at + 4) _ (let h = found (c .before .before .before .before .before .before .before .before .before .before .before .args .s .now) (library (c .before .before .before .before .before .before .before .before .before .before .before .args .lib .now)) 10 (c .before .before .before .before .before .before .before .before .before .before .before .args .offset) 8 (c .before .before .before .before .before .before .before .head .given .0 .0) (tells toldPlace (c .before .before .before .before .before .before .before .head .given .1) (c .before .before .before .before .before .before .before .before .before .table-place .ensures)) in omega arith) (c .before .before .before .before .u16-or-zero .ensures)))
 
 returns-3 : tie.Need-returns-3
 returns-3 c = bind-refused _ _ _ (tells toldPlace (c .before .n2 .given .1) (c .before .before .before .table-place .ensures))

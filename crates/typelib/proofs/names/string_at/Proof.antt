@@ -5,7 +5,6 @@ use Rattle.records.specs.AnswerLaws.{tells, bind-value, bind-refused}
 use Rattle.typelib.specs.Names.{stringBehind}
 use Rattle.util.specs.Read.{read-zero}
 use native.Mathlib.Omega.{arith}
-use mathlib.Core.Bool.{false}
 use mathlib.Core.Path.{_∙_, ap}
 use borrow.Author.Needs.{needs}
 use Rattle.typelib.proofs.names.string_at.Statement.{statement}
@@ -30,7 +29,7 @@ enum-known-n : tie.Need-enum-known-n
 enum-known-n c = search needs
 
 returns : tie.Need-returns
-returns c = bind-value _ _ _ _ (tells toldPlace (c .before .before .before .place .given .1) (c .before .before .before .before .before .table-place .ensures)) (c .string-behind .ensures ∙ ap (stringBehind (c .before .before .before .before .before .before .before .args .s .now) (library (c .before .before .before .before .before .before .before .args .lib .now)) (c .before .before .before .before .before .before .before .args .offset)) (read-zero 2 (c .before .before .before .before .before .before .before .args .s .now) (c .before .before .before .place .given .0 .0 .at) _ (let h = found false (c .before .before .before .before .before .before .before .args .s .now) (library (c .before .before .before .before .before .before .before .args .lib .now)) 8 (c .before .before .before .before .before .before .before .args .offset) 2 (c .before .before .before .place .given .0 .0) (tells toldPlace (c .before .before .before .place .given .1) (c .before .before .before .before .before .table-place .ensures)) in omega arith) (c .before .u16-or-zero .ensures)))
+returns c = bind-value _ _ _ _ (tells toldPlace (c .before .before .before .place .given .1) (c .before .before .before .before .before .table-place .ensures)) (c .string-behind .ensures ∙ ap (stringBehind (c .before .before .before .before .before .before .before .args .s .now) (library (c .before .before .before .before .before .before .before .args .lib .now)) (c .before .before .before .before .before .before .before .args .offset)) (read-zero 2 (c .before .before .before .before .before .before .before .args .s .now) (c .before .before .before .place .given .0 .0 .at) _ (let h = found (c .before .before .before .before .before .before .before .args .s .now) (library (c .before .before .before .before .before .before .before .args .lib .now)) 8 (c .before .before .before .before .before .before .before .args .offset) 2 (c .before .before .before .place .given .0 .0) (tells toldPlace (c .before .before .before .place .given .1) (c .before .before .before .before .before .table-place .ensures)) in omega arith) (c .before .u16-or-zero .ensures)))
 
 returns-2 : tie.Need-returns-2
 returns-2 c = bind-refused _ _ _ (tells toldPlace (c .before .n .given .1) (c .before .before .before .table-place .ensures))

@@ -4,7 +4,6 @@ use Rattle.records.specs.Told.{toldPlace}
 use Rattle.records.specs.AnswerLaws.{tells, map-value, map-refused}
 use native.Mathlib.Omega.{arith}
 use Prim.Native.Nat.{_+_}
-use mathlib.Core.Bool.{false}
 use mathlib.Core.Path.{refl}
 use borrow.Author.Needs.{needs}
 use Rattle.typelib.proofs.names.string_behind.Statement.{statement}
@@ -20,7 +19,7 @@ enum-known-entry : tie.Need-enum-known-entry
 enum-known-entry c = search needs
 
 add-t10 : tie.Need-add-t10
-add-t10 c = let h = found false (c .before .before .before .before .before .before .args .s .now) (library (c .before .before .before .before .before .before .args .lib .now)) 8 (c .before .before .before .before .before .before .args .offset) (2 + c .before .before .before .before .before .before .args .len) (c .before .before .entry .given .0 .0) (tells toldPlace (c .before .before .entry .given .1) (c .before .before .before .before .table-place .ensures)) in omega arith
+add-t10 c = let h = found (c .before .before .before .before .before .before .args .s .now) (library (c .before .before .before .before .before .before .args .lib .now)) 8 (c .before .before .before .before .before .before .args .offset) (2 + c .before .before .before .before .before .before .args .len) (c .before .before .entry .given .0 .0) (tells toldPlace (c .before .before .entry .given .1) (c .before .before .before .before .table-place .ensures)) in omega arith
 
 enum-known-n : tie.Need-enum-known-n
 enum-known-n c = search needs

@@ -1,5 +1,5 @@
 use Prim.Native.Nat.{_+_}
-use Rattle.typelib.specs.TableLaws.{table-out, table-file, table-strict}
+use Rattle.typelib.specs.TableLaws.{table-past, table-file}
 use mathlib.Core.Path.{sym, _∙_}
 use borrow.Author.Needs.{needs}
 use Rattle.typelib.proofs.tables.in_table.Statement.{statement}
@@ -12,14 +12,11 @@ reaches-requires-2 : tie.Need-reaches-requires-2
 reaches-requires-2 c κs = search needs
 
 returns : tie.Need-returns
-returns c = table-strict (c .before .before .before .before .before .args .s .now) (c .before .before .before .before .before .args .table) (c .before .before .before .before .before .args .from + c .before .before .before .before .before .args .size) (c .before .before .before .before .before .args .strict) _ (sym (c .before .before .before .reaches .ensures) ∙ c .before .before .if1 .taken) (c .before .if2 .taken) (c .reaches2 .ensures)
+returns c = table-file (c .before .before .before .before .args .s .now) (c .before .before .before .before .args .table) (c .before .before .before .before .args .from + c .before .before .before .before .args .size) _ (sym (c .before .before .reaches .ensures) ∙ c .before .if1 .taken) (c .reaches2 .ensures)
 
 returns-2 : tie.Need-returns-2
-returns-2 c = table-file (c .before .before .before .before .args .s .now) (c .before .before .before .before .args .table) (c .before .before .before .before .args .from + c .before .before .before .before .args .size) (c .before .before .before .before .args .strict) (sym (c .before .before .reaches .ensures) ∙ c .before .if1 .taken) (c .if2 .left)
-
-returns-3 : tie.Need-returns-3
-returns-3 c = table-out (c .before .before .before .args .s .now) (c .before .before .before .args .table) (c .before .before .before .args .from + c .before .before .before .args .size) (c .before .before .before .args .strict) (sym (c .before .reaches .ensures) ∙ c .if1 .left)
+returns-2 c = table-past (c .before .before .before .args .s .now) (c .before .before .before .args .table) (c .before .before .before .args .from + c .before .before .before .args .size) (sym (c .before .reaches .ensures) ∙ c .if1 .left)
 
 pub in-table-spec : {M : Type 1} → statement M
 in-table-spec =
-    tie.close (tie.spec reaches-requires reaches-requires-2 returns returns-2 returns-3)
+    tie.close (tie.spec reaches-requires reaches-requires-2 returns returns-2)

@@ -1,4 +1,4 @@
-use Rattle.table_cursors.specs.CursorLaws.{name-inside}
+use Rattle.table_cursors.specs.CursorLaws.{name-behind}
 use Rattle.table_cursors.specs.Cursors.{nameStepFrom}
 use Rattle.table_cursors.specs.Told.{toldNameEntry}
 use Rattle.records.specs.AnswerLaws.{tells}
@@ -15,13 +15,13 @@ enum-known-entry : tie.Need-enum-known-entry
 enum-known-entry c = search needs
 
 add-t8 : tie.Need-add-t8
-add-t8 c = let h = name-inside (c .before .before .before .before .before .before .before .args .s .now) (c .before .before .before .before .before .before .before .args .self) (c .before .before .before .entry .given .0 .0) (tells toldNameEntry (c .before .before .before .entry .given .1) (c .before .before .before .before .before .name-entry .ensures)) in omega arith
+add-t8 c = let h = name-behind (c .before .before .before .before .before .before .before .args .s .now) (c .before .before .before .before .before .before .before .args .self) (c .before .before .before .entry .given .0 .0) (tells toldNameEntry (c .before .before .before .entry .given .1) (c .before .before .before .before .before .name-entry .ensures)) in omega arith
 
 mul-t10 : tie.Need-mul-t10
-mul-t10 c = let h = name-inside (c .before .before .before .before .before .before .before .args .s .now) (c .before .before .before .before .before .before .before .args .self) (c .before .before .before .entry .given .0 .0) (tells toldNameEntry (c .before .before .before .entry .given .1) (c .before .before .before .before .before .name-entry .ensures)) in omega arith
+mul-t10 c = let h = name-behind (c .before .before .before .before .before .before .before .args .s .now) (c .before .before .before .before .before .before .before .args .self) (c .before .before .before .entry .given .0 .0) (tells toldNameEntry (c .before .before .before .entry .given .1) (c .before .before .before .before .before .name-entry .ensures)) in omega arith
 
 add-t11 : tie.Need-add-t11
-add-t11 c = let h = name-inside (c .before .before .before .before .before .before .before .before .args .s .now) (c .before .before .before .before .before .before .before .before .args .self) (c .before .before .before .before .entry .given .0 .0) (tells toldNameEntry (c .before .before .before .before .entry .given .1) (c .before .before .before .before .before .before .name-entry .ensures)) in omega arith
+add-t11 c = let h = name-behind (c .before .before .before .before .before .before .before .before .args .s .now) (c .before .before .before .before .before .before .before .before .args .self) (c .before .before .before .before .entry .given .0 .0) (tells toldNameEntry (c .before .before .before .before .entry .given .1) (c .before .before .before .before .before .before .name-entry .ensures)) in omega arith
 
 enum-known-n : tie.Need-enum-known-n
 enum-known-n c = search needs

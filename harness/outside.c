@@ -1,0 +1,267 @@
+#include "outside.h"
+#include "spell.h"
+
+#include <stdio.h>
+
+/* A field that is not negative names an entry of a table by its offset. It leads out of the table where
+   the reading of that entry replies 9. A field that is not there itself is no such field. */
+typedef int64_t reading(const uint8_t *lib, size_t lib_len, int32_t offset, uint8_t *out,
+                        size_t out_len);
+
+/* The most bytes that one of these readings, or a step along a chain, writes. */
+enum { MOST_OUT = 40 };
+
+/* A pass over the library: the first counts what leads out, the second says where. */
+typedef struct search {
+    const library *l;
+    bool says;
+    size_t found;
+    cell where;
+} search;
+
+static bool names_something(int64_t field)
+{
+    return 0 <= field && 0 <= msft_i32(field);
+}
+
+/* One finding: `part` and `what` are words for the field. */
+static void found(search *s, const char *part, const char *what, int64_t offset, const char *is)
+{
+    s->found++;
+    if (s->says)
+        printf("  %s: %s%s, at offset 0x%lx, is %s\n", s->where.text, part, what,
+               (unsigned long)offset, is);
+}
+
+static void look(search *s, const char *part, const char *what, int64_t field, reading *read,
+                 const char *is)
+{
+    uint8_t out[MOST_OUT];
+    if (names_something(field)
+        && read(BYTES(s->l), msft_i32(field), out, sizeof out) == -MSFT_NOTHING_THERE)
+        found(s, part, what, field, is);
+}
+
+static void look_at_guid(search *s, const char *part, const char *what, int64_t field)
+{
+    look(s, part, what, field, msft_guid, "not inside the GUID table");
+}
+
+/* A stored text whose length is below minus 1 is nothing wherever it lies. */
+static bool has_no_length(const library *l, int64_t offset)
+{
+    enum { TABLE = 11, HEAD = 6, TEXT = 8 };
+    uint8_t out[16];
+    if (!names_something(offset) || msft_segment(BYTES(l), TABLE, out, sizeof out) < 0)
+        return false;
+    msft_place table = msft_unpack_place(out);
+    size_t at = table.at + (size_t)offset;
+    if (table.len < (size_t)offset + HEAD || l->len < at + HEAD)
+        return false;
+    const uint8_t *head = l->bytes + at;
+    return msft_le(head, 2) == TEXT && msft_i32((int64_t)msft_le(head + 2, 4)) < -1;
+}
+
+static void look_at_constant(search *s, const char *what, int64_t field)
+{
+    if (!has_no_length(s->l, field))
+        look(s, "", what, field, msft_const_value, "not inside the table of constants");
+}
+
+/* Goes on to a type, a member or a parameter, and looks at its name. Replies where the words for what
+   it is part of end; `leave` cuts there. */
+static size_t enter(search *s, const char *what, size_t index, int64_t name)
+{
+    size_t before = s->where.len;
+    if (s->says) {
+        text words = name_at(s->l, name);
+        put(&s->where, "%s %zu", what, index);
+        if (words.bytes != NULL) {
+            put(&s->where, " ");
+            put_quoted(&s->where, words);
+        }
+    }
+    look(s, "", "its name", name, msft_name_bytes, "not inside the name table");
+    return before;
+}
+
+static void leave(search *s, size_t before)
+{
+    s->where.len = before;
+    s->where.text[before] = '\0';
+}
+
+/* ---- references and types ---- */
+
+static void look_at_import(search *s, const char *what, const msft_reference *r)
+{
+    const library *l = s->l;
+    int64_t file = msft_impinfo_imp_file_offset(BYTES(l), MSFT_PLACE(r->info));
+    if ((msft_impinfo_flags(BYTES(l), MSFT_PLACE(r->info)) & 0x10000) != 0)
+        look_at_guid(s, "the GUID in the import record of ", what,
+                     msft_impinfo_guid_offset(BYTES(l), MSFT_PLACE(r->info)));
+    look(s, "the import file of ", what, file, msft_imp_file,
+         "not inside the table of import files");
+    if (r->has_file)
+        look_at_guid(s, "the GUID in the import file of ", what,
+                     msft_impfile_guid_offset(BYTES(l), MSFT_PLACE(r->file)));
+}
+
+/* A reference with one of its low two bits set names an import record; any other is no offset into a
+   table. */
+static void look_at_reference(search *s, const char *what, int64_t hreftype)
+{
+    uint8_t out[MOST_OUT];
+    if (!names_something(hreftype) || (hreftype & 3) == 0)
+        return;
+    if (msft_resolve_hreftype_full(BYTES(s->l), msft_i32(hreftype), out, sizeof out) < 0) {
+        found(s, "the import record of ", what, hreftype & ~INT64_C(0x01000003),
+              "not inside the table of imports");
+        return;
+    }
+    msft_reference r = msft_unpack_reference(out);
+    look_at_import(s, what, &r);
+}
+
+/* A description that is not there: its type descriptor leads out, or else the array descriptor that this
+   names by its low 16 bits. */
+static void found_descriptor(search *s, const char *what, int64_t field)
+{
+    uint8_t out[8];
+    if (msft_type_desc(BYTES(s->l), msft_i32(field), out, sizeof out) < 0)
+        found(s, "a type descriptor of ", what, field, "not inside the table of type descriptors");
+    else
+        found(s, "an array descriptor of ", what, (int64_t)msft_le(out + 4, 2),
+              "not inside the table of array descriptors");
+}
+
+static void look_at_type(search *s, const char *what, int64_t field)
+{
+    msft_description d;
+    while (0 <= field) {
+        if (!describe(s->l, field, &d)) {
+            found_descriptor(s, what, field);
+            return;
+        }
+        if (d.code == MSFT_REFERENCE)
+            look_at_reference(s, what, (int64_t)(uint32_t)d.number);
+        field = described(s->l, &d);
+    }
+}
+
+/* ---- types and members ---- */
+
+static void look_at_parameters(search *s, msft_place function)
+{
+    const library *l = s->l;
+    msft_cursor at = parameters_of(l, function);
+    msft_place record;
+    for (size_t i = 0; next_parameter(l, &at, &record); i++) {
+        size_t before = enter(s, ", parameter", i,
+                              msft_param_name_offset(BYTES(l), MSFT_PLACE(record)));
+        look_at_type(s, "its type", msft_param_datatype(BYTES(l), MSFT_PLACE(record)));
+        if ((msft_param_flags(BYTES(l), MSFT_PLACE(record)) & 0x20) != 0)
+            look_at_constant(s, "its default value",
+                             msft_func_default_value_offset(BYTES(l), MSFT_PLACE(function), i));
+        leave(s, before);
+    }
+}
+
+static void look_at_functions(search *s, msft_place type)
+{
+    const library *l = s->l;
+    msft_cursor at = functions_of(l, type);
+    msft_place record;
+    for (size_t i = 0; next_function(l, &at, &record); i++) {
+        size_t before = enter(s, ", function", i,
+                              msft_func_name_offset(BYTES(l), MSFT_PLACE(type), i));
+        look_at_type(s, "its result", msft_func_datatype(BYTES(l), MSFT_PLACE(record)));
+        look_at_parameters(s, record);
+        leave(s, before);
+    }
+}
+
+static void look_at_variables(search *s, msft_place type)
+{
+    const library *l = s->l;
+    msft_cursor at = variables_of(l, type);
+    msft_place record;
+    for (size_t i = 0; next_variable(l, &at, &record); i++) {
+        size_t before = enter(s, ", variable", i,
+                              msft_var_name_offset(BYTES(l), MSFT_PLACE(type), i));
+        look_at_type(s, "its type", msft_var_datatype(BYTES(l), MSFT_PLACE(record)));
+        if (msft_var_varkind(BYTES(l), MSFT_PLACE(record)) == 2)
+            look_at_constant(s, "its value", msft_var_offs_value(BYTES(l), MSFT_PLACE(record)));
+        leave(s, before);
+    }
+}
+
+/* The interfaces of a coclass, and the offset behind the last. */
+static void look_at_chain(search *s, msft_place type)
+{
+    const library *l = s->l;
+    uint8_t out[MOST_OUT];
+    if (msft_impl_types(BYTES(l), MSFT_PLACE(type), out, sizeof out) < 0)
+        return;
+    msft_chain_cursor at = msft_unpack_chain_cursor(out);
+    while (0 <= msft_impl_type_step(BYTES(l), MSFT_CHAIN_CURSOR(at), out, sizeof out)) {
+        msft_place record = msft_unpack_place(out);
+        look_at_reference(s, "an interface that it implements",
+                          msft_ref_reftype(BYTES(l), MSFT_PLACE(record)));
+        at = msft_unpack_chain_cursor(out + MSFT_STEP);
+    }
+    if (names_something(at.next))
+        found(s, "", "a record of its references", at.next, "not inside the table of references");
+}
+
+static void look_at_base(search *s, msft_place type)
+{
+    int64_t field = msft_typeinfo_datatype1(BYTES(s->l), MSFT_PLACE(type));
+    switch (msft_typeinfo_typekind(BYTES(s->l), MSFT_PLACE(type))) {
+    case 3:
+    case 4: look_at_reference(s, "its base", field); break;
+    case 5: look_at_chain(s, type); break;
+    case 6: look_at_type(s, "what it stands for", field); break;
+    default: break;
+    }
+}
+
+static void look_at_types(search *s)
+{
+    const library *l = s->l;
+    int64_t count = msft_typeinfo_count(BYTES(l));
+    msft_place type;
+    for (int64_t i = 0; i < count; i++) {
+        if (!type_at(l, (size_t)i, &type))
+            continue;
+        size_t before = enter(s, "type", (size_t)i,
+                              msft_typeinfo_name_offset(BYTES(l), MSFT_PLACE(type)));
+        look_at_guid(s, "", "its GUID", msft_typeinfo_guid_offset(BYTES(l), MSFT_PLACE(type)));
+        look_at_base(s, type);
+        look_at_functions(s, type);
+        look_at_variables(s, type);
+        leave(s, before);
+    }
+}
+
+static size_t outside(const library *l, bool says)
+{
+    search s = {l, says, 0, {0, ""}};
+    put(&s.where, "the library");
+    look(&s, "", "its name", msft_name_offset(BYTES(l)), msft_name_bytes,
+         "not inside the name table");
+    look_at_guid(&s, "", "its GUID", msft_lib_guid_offset(BYTES(l)));
+    leave(&s, 0);
+    look_at_types(&s);
+    return s.found;
+}
+
+void print_outside(const library *l)
+{
+    size_t count = outside(l, false);
+    if (count == 0)
+        return;
+    printf(count == 1 ? "  %zu reading leads out of its table\n"
+                      : "  %zu readings lead out of their tables\n", count);
+    outside(l, true);
+}
