@@ -4,6 +4,12 @@
 //! The files are compiled where they lie, unchanged; of those that keep to themselves what an export
 //! for C gives, a copy with our lines of `src/peeks` behind it. The copies and a list of module
 //! declarations are written into cargo's output folder; `src/lib.rs` includes the list.
+//!
+//! The package `bounded` has this build script too. Its copies have the changes of `build/kept.rs`, and its
+//! sources the cfg `bounded`.
+
+#[path = "build/kept.rs"]
+mod kept;
 
 use std::path::{Path, PathBuf};
 use std::{env, fs};
@@ -16,6 +22,9 @@ const SOURCE_HINT: &str = "set MSFT_TYPELIB_SRC to the folder that holds the ref
 /// The product's static library; a relative path is taken from the project root. Without it,
 /// nothing that calls the product is built.
 const ARCHIVE_VARIABLE: &str = "MSFT_TYPELIB_ARCHIVE";
+
+/// The package whose copy of the reference is kept to its tables.
+const BOUNDED: &str = "bounded";
 
 /// The given files. A clone also holds a `lib.rs` and the `Error` type; `src/lib.rs` here stands
 /// in for both, so they are not built.
@@ -52,8 +61,16 @@ const PEEKED: [&str; 7] = [
 ];
 
 fn main() {
+    println!("cargo::rustc-check-cfg=cfg(bounded)");
+    if is_bounded() {
+        println!("cargo::rustc-cfg=bounded");
+    }
     declare_reference();
     link_product();
+}
+
+fn is_bounded() -> bool {
+    env::var("CARGO_PKG_NAME").is_ok_and(|name| name == BOUNDED)
 }
 
 fn declare_reference() {
@@ -78,16 +95,20 @@ fn declare_reference() {
     fs::write(&list, declarations).expect("cargo's output folder can be written");
 }
 
-/// A copy of the reference's file with our lines behind it.
+/// A copy of the reference's file with our lines behind it. Of the files that are changed, each has some.
 fn with_peeks(file: &Path, module: &str) -> PathBuf {
     let peeks = cargo_folder("CARGO_MANIFEST_DIR")
-        .join("src/peeks")
+        .join("../oracle/src/peeks")
         .join(module)
         .with_extension("rs");
     println!("cargo::rerun-if-changed={}", peeks.display());
-    let parts = [file, &peeks].map(|part| fs::read_to_string(part).expect("a source can be read"));
+    let read = |part: &Path| fs::read_to_string(part).expect("a source can be read");
+    let mut text = read(file);
+    if is_bounded() {
+        text = kept::changed(module, text);
+    }
     let copy = cargo_folder("OUT_DIR").join(module).with_extension("rs");
-    fs::write(&copy, parts.join("\n")).expect("cargo's output folder can be written");
+    fs::write(&copy, text + "\n" + &read(&peeks)).expect("cargo's output folder can be written");
     copy
 }
 

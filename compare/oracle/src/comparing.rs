@@ -2,6 +2,7 @@
 //! reply and of every byte of its output, smaller inputs, and words for a run that is stopped.
 
 pub mod guarded;
+pub mod kinds;
 pub mod lent;
 pub mod report;
 pub mod shrink;

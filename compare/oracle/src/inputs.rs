@@ -8,6 +8,7 @@ pub mod large;
 pub mod layout;
 pub mod made;
 pub mod records;
+pub mod table_ends;
 pub mod texts;
 
 use std::path::{Path, PathBuf};

@@ -3,10 +3,15 @@
 //! The reference's crate root and its `Error` type are not among the given files. This file stands
 //! in for both. `readings`, `library`, `enumerate`, `sheet` and what feeds them are ours; they are modules
 //! of the same crate because the constructors of the reference's records are `pub(crate)`.
+//!
+//! It is compiled twice: as `msft_typelib` over the reference's files as they are, and as `bounded` over a copy
+//! that is kept to its tables, which `build/kept.rs` makes.
 
 // One `mod` for each of the reference's files, written by `build.rs`.
 include!(concat!(env!("OUT_DIR"), "/modules.rs"));
 
+#[cfg(bounded)]
+pub mod bounds;
 pub mod c_header;
 pub mod comparing;
 pub mod coverage;
@@ -20,6 +25,7 @@ pub mod product;
 pub mod random;
 pub mod readings;
 pub mod sheet;
+#[cfg(not(bounded))]
 pub mod timing;
 
 pub use arraydesc::{ArrayDesc, SafeArrayBound};

@@ -119,6 +119,12 @@ pub struct Question {
     pub numbers: [u32; 3],
 }
 
+impl Question {
+    pub fn new(ask: Ask, numbers: [u32; 3]) -> Self {
+        Question { ask, numbers }
+    }
+}
+
 /// The most records of a chain that are asked for: one that comes round has no end.
 const LONGEST_CHAIN: usize = 40;
 
@@ -368,8 +374,8 @@ impl<'a> Told<'a> {
         }
     }
 
-    /// The place of some bytes of a table, which the reference has no reading for: of GUIDs, which are
-    /// kept to the file, and of import records, which are kept to their segment too.
+    /// The place of some bytes of a table, which the reference has no reading for: of GUIDs and of import
+    /// records.
     fn table_place(&mut self, lib: &TypeLib<'a>, [segment, size, offset]: [u32; 3]) {
         let place = match (segment as usize, size) {
             (GUID_SEGMENT, 16) => lib.guid(offset as i32).map(|guid| guid.as_bytes()),

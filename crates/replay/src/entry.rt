@@ -1,8 +1,9 @@
 // The form of a recorded file: a count of 4 bytes, and that many items.
 //
 // An item lends bytes, or asks a question about those lent last. It lends by the byte 255, the count
-// of the bytes (4) and these; by the byte 254 in the same way, and then the library that is asked stays the one
-// in the bytes lent by 255 last. A question is the number of what is asked (1), three numbers (4 each),
+// of the bytes (4) and these; by the byte 253 in the same way, where the Rust was kept to its tables for an answer
+// about the library in them; by the byte 254 in the same way, and then the library that is asked stays the one
+// in the bytes lent by 255 or 253 last. A question is the number of what is asked (1), three numbers (4 each),
 // the count of the answers' bytes (2) and these. All numbers have their lowest byte first.
 use records::answer::Place;
 use records::answer::PlaceAnswer;
@@ -10,10 +11,13 @@ use records::answer::PlaceAnswer;
 // Where the first item starts, behind the count.
 pub const FIRST: usize = 4;
 
-// The kind of an item that lends bytes, and of one that lends other bytes for the same library.
+// The kind of an item that lends bytes, of one that lends other bytes for the same library, and of one that
+// lends a library in which the Rust was kept to its tables.
 pub const LENT: u8 = 255;
 
 pub const BESIDE: u8 = 254;
+
+pub const KEPT: u8 = 253;
 
 // An item that lends no bytes, and a question that has no answers.
 const SMALLEST_LENT: usize = 5;
@@ -21,7 +25,7 @@ const SMALLEST_LENT: usize = 5;
 const SMALLEST_QUESTION: usize = 15;
 
 pub struct Item {
-    // What is asked, or LENT or BESIDE.
+    // What is asked, or LENT, BESIDE or KEPT.
     pub kind: u8,
     // The question's numbers.
     pub first: u32,
@@ -56,7 +60,7 @@ pub(crate) fn read(s: &[u8], at: usize) -> ItemRead {
     if size <= at {
         return ItemRead::Malformed;
     }
-    if BESIDE <= s[at] {
+    if KEPT <= s[at] {
         return read_lent(s, at);
     }
     read_question(s, at)
@@ -132,7 +136,7 @@ pub(crate) fn count(s: &[u8], first: u8, end: u8) -> CountRead {
 }
 
 fn is_of(kind: u8, first: u8, end: u8) -> bool {
-    BESIDE <= kind || first <= kind && kind < end
+    KEPT <= kind || first <= kind && kind < end
 }
 
 pub(crate) fn nothing_lent() -> Lent {
@@ -150,6 +154,7 @@ pub(crate) fn lent_behind(before: Lent, item: Item) -> Lent {
     let kind = item.kind;
     match kind {
         LENT => Lent { bytes, own: bytes },
+        KEPT => Lent { bytes, own: bytes },
         BESIDE => {
             let own = before.own;
             Lent { bytes, own }

@@ -1,10 +1,11 @@
 // Asks the crates `records`, `typelib` and `sheet` the recorded questions, and compares their answers
-// with those of the reference, the Rust crate.
+// with those of the reference, the Rust crate. It is kept to its tables, as document 02 says; where it had nothing to
+// cut, its answers are those that it gives as it is.
 //
 // Three files in the working folder hold the questions and the answers: `records` those about single
 // records, `libraries` those about whole libraries, and `beside` those about a library that is read
 // beside other bytes than it was parsed from. The Rust cannot hold such a one: these answers are by
-// document 01. compare/oracle/src/bin/record makes the files, and its file.rs describes them.
+// documents 01 and 02. compare/oracle/src/bin/record makes the files, and its file.rs describes them.
 mod bytes;
 mod compare;
 mod constant;
@@ -66,7 +67,10 @@ fn replay(file: &[u8], room: &[u8; ROOM], size: usize, first: u8, end: u8) {
     }
     let s = entry::part(room, 0, size);
     match entry::count(s, first, end) {
-        CountRead::Value(count) => replay_kinds(file, s, count, first, end),
+        CountRead::Value(count) => {
+            replay_kinds(file, s, count, first, end);
+            count_libraries(file, s, count, first)
+        }
         CountRead::Malformed => report::trouble(file, b" is cut off or malformed"),
     }
 }
@@ -83,6 +87,18 @@ fn replay_kinds(file: &[u8], s: &[u8], count: u32, first: u8, end: u8) {
     }
     report::print(file);
     report::counts_line(all);
+}
+
+// Prints how many libraries the file lends that the Rust reads as it is, and how many in which it is kept to its
+// tables. The records of the first file are no libraries.
+fn count_libraries(file: &[u8], s: &[u8], count: u32, first: u8) {
+    if first == 0 {
+        return;
+    }
+    let as_they_are = replay_kind(s, count, entry::LENT, 0);
+    let kept = replay_kind(s, count, entry::KEPT, 0);
+    report::print(file);
+    report::libraries_line(as_they_are.questions, kept.questions);
 }
 
 // Replays the questions of one kind, wherever they stand, about the bytes that were lent last before
@@ -106,8 +122,12 @@ fn replay_kind(s: &[u8], count: u32, kind: u8, shown: u64) -> Progress {
     progress
 }
 
-// Compares all answers to a question. What is left of the recorded bytes is a difference.
+// Compares all answers to a question. What is left of the recorded bytes is a difference. An item that lends
+// bytes is only counted.
 fn replay_question(places: Lent, s: &[u8], item: Item, before: Progress) -> Progress {
+    if entry::KEPT <= item.kind {
+        return before;
+    }
     let recorded = entry::part(s, item.at, item.len);
     let lent = entry::bytes_at(s, places.bytes);
     let progress = if item.kind < kinds::COUNT {

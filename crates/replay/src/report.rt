@@ -45,6 +45,15 @@ pub(crate) fn counts_line(counts: Progress) {
     print(b" differences\n");
 }
 
+// How many libraries of a file were lent of each kind.
+pub(crate) fn libraries_line(as_they_are: u64, kept: u64) {
+    print(b": ");
+    io::print_decimal(STDOUT_FILENO, as_they_are);
+    print(b" libraries as the Rust reads them, ");
+    io::print_decimal(STDOUT_FILENO, kept);
+    print(b" in which it is kept to its tables\n");
+}
+
 pub(crate) fn print(text: &[u8]) {
     io::write_all(STDOUT_FILENO, text);
 }

@@ -32,8 +32,7 @@ pub(crate) fn replay(
     }
 }
 
-// Where some bytes of a table lie, by `table_place` and by `place_in` behind it. Import records are
-// kept to their segment.
+// Where some bytes of a table lie, by `table_place` and by `place_in` behind it.
 pub(crate) fn place(
     lent: &[u8],
     lib: TypeLib,
@@ -43,14 +42,13 @@ pub(crate) fn place(
     offset: u32,
     before: Progress,
 ) -> Progress {
-    let strict = segment == 1;
-    let placed = tables::table_place(&lib.numbers, lent, segment, offset, size, strict);
+    let placed = tables::table_place(&lib.numbers, lent, segment, offset, size);
     let progress = same_place(recorded, before, placed);
     match lib.segment(segment) {
         PlaceAnswer::Value(table) => same_place(
             recorded,
             progress,
-            tables::place_in(lent, table, offset, size, strict),
+            tables::place_in(lent, table, offset, size),
         ),
         PlaceAnswer::Refused(n) => same_place(recorded, progress, PlaceAnswer::Refused(n)),
     }

@@ -1,9 +1,9 @@
-//! The sheet program as the reference would have it: a library on standard input, its sheet in
-//! hexadecimal or its refusal on standard output.
+//! The sheet program as the reference, kept to its tables, would have it: a library on standard input, its
+//! sheet in hexadecimal or its refusal on standard output.
 
 use std::io::{self, Read};
 
-use msft_typelib::sheet::{PROGRAM_BYTES, program_line};
+use bounded::sheet::{PROGRAM_BYTES, program_line};
 
 fn main() -> io::Result<()> {
     let mut input = Vec::new();

@@ -158,11 +158,11 @@ fn other_steps() -> Vec<Export> {
             typeinfos.by_ref().take(index).for_each(drop);
             typeinfos.size_hint().0.tell(lib.data())
         }),
-        export!(ChainOut msft_impl_type_step, Asks::Cursor(Cursor::Chain), Lent, |lib, [at, len, next]| {
-            let mut chain = ImplTypeIter::new(lib.data(), at, next as i32);
+        export!(ChainOut msft_impl_type_step, Asks::Cursor(Cursor::Chain), Lent, |lib, numbers| {
+            let mut chain = chain(lib, numbers);
             let reference = chain.next().map(|reference| reference.held());
             let row = reference.map(|bytes| Row::new().place(lib.data(), bytes));
-            row.map(|row| chain_row(row, &chain, len)).tell(lib.data())
+            row.map(|row| chain_row(row, &chain, numbers[1])).tell(lib.data())
         }),
         export!(ChainOut msft_walk, Asks::Cursor(Cursor::Chain), Lent, walk),
     ]
@@ -189,10 +189,24 @@ fn typeinfo_step(lib: &TypeLib, [index, ..]: Numbers) -> Answer {
     }
 }
 
+/// The chain of a cursor: its table's place and length, and the next offset. The reference itself does not
+/// know where the table ends.
+#[cfg(not(bounded))]
+fn chain<'a>(lib: &TypeLib<'a>, [at, _, next]: Numbers) -> ImplTypeIter<'a> {
+    ImplTypeIter::new(lib.data(), at, next as i32)
+}
+
+#[cfg(bounded)]
+fn chain<'a>(lib: &TypeLib<'a>, [at, len, next]: Numbers) -> ImplTypeIter<'a> {
+    use crate::bounds::{Read, Table};
+    let table = Table::new(lib.data(), at.saturating_add(len), Read::Reference);
+    ImplTypeIter::new(table, at, next as i32)
+}
+
 /// How many records the chain has, or 10 where it returns to an offset already passed: document 01's
 /// definition, for the reference has no such reading.
-fn walk(lib: &TypeLib, [at, _, next]: Numbers) -> Answer {
-    let mut chain = ImplTypeIter::new(lib.data(), at, next as i32);
+fn walk(lib: &TypeLib, numbers: Numbers) -> Answer {
+    let mut chain = chain(lib, numbers);
     let mut passed = HashSet::new();
     loop {
         let (_, offset) = chain.numbers();

@@ -21,6 +21,9 @@ pub struct Pool {
     real: HashMap<Asks, Vec<Numbers>>,
 }
 
+/// How far beside a real number one is that is near it.
+const NEAR: usize = 20;
+
 impl Pool {
     pub fn new(bytes: &[u8]) -> Self {
         let input = Parsed::new(bytes);
@@ -64,9 +67,11 @@ impl Pool {
         };
         let mut numbers = random.one_of(real);
         if choice >= REAL {
-            let hostile = self.hostile(asks, random);
             let which = random.below(numbers.len());
-            numbers[which] = hostile[which];
+            numbers[which] = match random.percent(50) {
+                true => self.hostile(asks, random)[which],
+                false => beside(numbers[which], random),
+            };
         } else if let Asks::Record(_) = asks {
             numbers[2] = self.index(random);
         }
@@ -167,4 +172,11 @@ impl Pool {
         };
         edge.wrapping_add(beside)
     }
+}
+
+/// A number near a real one.
+fn beside(number: usize, random: &mut Random) -> usize {
+    number
+        .wrapping_add(random.below(2 * NEAR + 1))
+        .wrapping_sub(NEAR)
 }

@@ -31,7 +31,7 @@ pub fn libraries() -> impl Iterator<Item = Input> {
                 let mut layout = Layout::new(Vec::new());
                 layout.table(layout::CONSTANTS, constant[..length].to_vec());
                 // A table of no bytes would be a missing one.
-                layout.length(layout::CONSTANTS, 1);
+                layout.length(layout::CONSTANTS, length.max(1) as i32);
                 Input::new(
                     format!("{length} bytes of a constant of code {code}"),
                     layout.bytes(),

@@ -152,7 +152,7 @@ fn interesting(random: &mut Random, bytes: &[u8], at: usize) -> u32 {
         2 => old ^ 1 << random.below(32),
         3 => length.wrapping_sub(random.below(130) as u32),
         4 => random.below(256) as u32,
-        5 => random.below(bytes.len()) as u32,
+        5 => random.below(bytes.len().max(1)) as u32,
         6 => old ^ 0xFFFF & random.number() as u32,
         _ => random.number() as u32,
     }

@@ -1,10 +1,11 @@
-//! Compares every export for C with the reference, reading by reading, in one process.
+//! Compares every export for C with the reference, reading by reading, in one process. All answers are held to
+//! the reference kept to its tables; where that had nothing to cut, it must answer as the reference itself does.
 //!
 //! `compare_readings [--seed S] [--cases N] [--corpus FOLDER]` tries real libraries, their beginnings,
 //! made-up records and texts, the edges, an input that is too long, and then damaged and made-up
 //! libraries until these make N cases. It ends with a failure if there was a difference, if the header
-//! declares an export that is not driven or another form of it, or if an export never answered with a
-//! value or with one of its refusals.
+//! declares an export that is not driven or another form of it, if an export never answered with a
+//! value or with one of its refusals, or if a read of some kind of record was never cut.
 
 #[cfg(product)]
 mod options;
@@ -23,7 +24,7 @@ fn main() -> ExitCode {
         eprintln!("{}", options::USAGE);
         return ExitCode::FAILURE;
     };
-    msft_typelib::comparing::stopped::watch_for_signals();
+    bounded::comparing::stopped::watch_for_signals();
     plan::compare(&options)
 }
 

@@ -2,13 +2,13 @@
 
 use std::process::ExitCode;
 
-use msft_typelib::exports::numbers::{Asks, Words};
-use msft_typelib::exports::pool::Pool;
-use msft_typelib::inputs::layout::{self, Layout};
-use msft_typelib::inputs::{Input, Inputs, constants, edges, large, records, texts};
-use msft_typelib::random::Random;
-use msft_typelib::readings::Kind;
-use msft_typelib::sheet::{MOST_BYTES, MOST_TYPES};
+use bounded::exports::numbers::{Asks, Words};
+use bounded::exports::pool::Pool;
+use bounded::inputs::layout::{self, Layout};
+use bounded::inputs::{Input, Inputs, constants, edges, large, records, table_ends, texts};
+use bounded::random::Random;
+use bounded::readings::Kind;
+use bounded::sheet::{MOST_BYTES, MOST_TYPES};
 
 use crate::options::Options;
 use crate::run::Run;
@@ -44,7 +44,7 @@ pub fn compare(options: &Options) -> ExitCode {
     for input in inputs.corpus() {
         every(&mut run, &input, ABOUT_REAL);
     }
-    for input in edges::quick() {
+    for input in edges::quick().into_iter().chain(table_ends::libraries()) {
         every(&mut run, &input, ABOUT_NUMBERED);
     }
     for input in texts::libraries(&mut inputs.random(FOR_TEXTS)) {

@@ -4,17 +4,21 @@ use std::collections::BTreeSet;
 use std::process::ExitCode;
 use std::time::{Duration, Instant};
 
-use msft_typelib::c_header::{self, Declared};
-use msft_typelib::comparing::guarded::Side;
-use msft_typelib::comparing::lent::{Lent, Written};
-use msft_typelib::comparing::shrink::shrink;
-use msft_typelib::comparing::{report, stopped};
-use msft_typelib::exports::answer::Answer;
-use msft_typelib::exports::numbers::{Asks, Numbers};
-use msft_typelib::exports::{self, Export, Parsed};
-use msft_typelib::inputs::Input;
-use msft_typelib::random::Random;
-use msft_typelib::sheet::{MOST_BYTES, refusal};
+use bounded::bounds::{Notes, Read, noting};
+use bounded::c_header::{self, Declared};
+use bounded::comparing::guarded::Side;
+use bounded::comparing::kinds::Kinds;
+use bounded::comparing::lent::{Lent, Written};
+use bounded::comparing::shrink::shrink;
+use bounded::comparing::{report, stopped};
+use bounded::exports::answer::Answer;
+use bounded::exports::numbers::{Asks, Numbers};
+use bounded::exports::{self, Export, Parsed};
+use bounded::inputs::Input;
+use bounded::random::Random;
+use bounded::sheet::{MOST_BYTES, refusal};
+
+use msft_typelib::exports as own;
 
 use crate::tally::{self, Tally};
 
@@ -30,16 +34,27 @@ const ROOM_FOR_REFUSED: usize = 64;
 /// The bytes of a cursor's last number.
 const LAST_NUMBER: usize = 8;
 
-/// An export and what was counted of it.
+/// An export, the same over the reference as it is, and what was counted of it.
 struct Driven {
     export: Export,
+    own: own::Export,
     tally: Tally,
     differs: bool,
+}
+
+/// An input as the reference reads it, kept to its tables and as it is.
+struct Both<'a> {
+    kept: Parsed<'a>,
+    own: own::Parsed<'a>,
 }
 
 pub struct Run {
     driven: Vec<Driven>,
     declared: Vec<Declared>,
+    kinds: Kinds,
+    /// The cases in which something was cut, and what.
+    cut_cases: u64,
+    cut: Notes,
     inputs: u64,
     random: Random,
     lent: Lent,
@@ -49,14 +64,19 @@ pub struct Run {
 impl Run {
     pub fn new(seed: u64) -> Self {
         let declared = c_header::declared();
-        let driven = |export| Driven {
+        let driven = |(export, own)| Driven {
             tally: Tally::new(&export, &declared),
             export,
+            own,
             differs: false,
         };
+        let both = exports::all().into_iter().zip(own::all());
         Run {
-            driven: exports::all().into_iter().map(driven).collect(),
+            driven: both.map(driven).collect(),
             declared,
+            kinds: Kinds::default(),
+            cut_cases: 0,
+            cut: Notes::default(),
             inputs: 0,
             random: Random::new(seed),
             lent: Lent::default(),
@@ -107,31 +127,66 @@ impl Run {
             _ => Side::End,
         };
         self.lent.hold(&input.bytes, side);
-        let parsed = Parsed::new(&input.bytes);
+        let both = Both {
+            kept: Parsed::new(&input.bytes),
+            own: own::Parsed::new(&input.bytes),
+        };
+        let cut_before = self.cut_cases;
+        self.ask_all(&both, &input.name, numbers);
+        self.kinds.add(self.cut_cases > cut_before);
+    }
+
+    fn ask_all(
+        &mut self,
+        input: &Both,
+        name: &str,
+        numbers: impl Fn(Asks, &mut Random) -> Vec<Numbers>,
+    ) {
         for at in 0..self.driven.len() {
             if self.is_hopeless() {
                 return;
             }
             let export = &self.driven[at].export;
             let asked = numbers(export.asks, &mut self.random);
-            stopped::trying(&format!("{}, {}", export.name, input.name));
+            stopped::trying(&format!("{}, {name}", export.name));
             for numbers in asked {
-                self.case(at, &parsed, numbers, &input.name);
+                self.case(at, input, numbers, name);
             }
         }
     }
 
+    /// What the export with this number should answer: what the reference does kept to its tables, and also as
+    /// it is where nothing was cut.
+    fn expected(&mut self, at: usize, input: &Both, numbers: Numbers) -> Answer {
+        let Driven { export, own, .. } = &self.driven[at];
+        let (expected, notes) = noting(|| export.expected(&input.kept, numbers));
+        if notes.is_empty() {
+            let right = own.expected(&input.own, numbers);
+            let name = export.name;
+            assert!(
+                are_same(&expected, &right),
+                "{name} {numbers:x?}: nothing was cut"
+            );
+        } else {
+            self.cut_cases += 1;
+            self.cut.add(notes);
+        }
+        expected
+    }
+
     /// Compares one answer of the export with this number. An export that differs is shown once.
-    fn case(&mut self, at: usize, input: &Parsed, numbers: Numbers, name: &str) {
+    fn case(&mut self, at: usize, input: &Both, numbers: Numbers, name: &str) {
+        if self.driven[at].differs {
+            return;
+        }
+        let expected = self.expected(at, input, numbers);
         let Driven {
             export,
             tally,
             differs,
+            ..
         } = &mut self.driven[at];
-        if *differs {
-            return;
-        }
-        let expected = export.expected(input, numbers);
+        let input = &input.kept;
         tally.add(input.lib.is_ok(), numbers, &expected);
         if let Some(wrong) = difference(&mut self.lent, export, numbers, &expected) {
             *differs = true;
@@ -166,8 +221,16 @@ impl Run {
         println!(
             "about bytes that are no library: {values} values and {nothing} refusals 9 of calls that do not parse"
         );
+        let as_it_is = self.cases() - self.cut_cases;
+        println!("{}", self.kinds);
+        println!(
+            "{as_it_is} cases as the Rust answers them, {} in which it is kept to its tables",
+            self.cut_cases
+        );
+        println!("reads that were cut: {}", self.cut);
         let tallies = self.driven.iter().map(|driven| &driven.tally);
-        let faults: Vec<String> = tallies.flat_map(Tally::faults).collect();
+        let mut faults: Vec<String> = tallies.flat_map(Tally::faults).collect();
+        faults.extend(self.cut.missing(&Read::ALL));
         for fault in &faults {
             println!("not covered as it should be: {fault}");
         }
@@ -176,6 +239,18 @@ impl Run {
             true => ExitCode::SUCCESS,
             false => ExitCode::FAILURE,
         }
+    }
+}
+
+/// Whether the reference answers the same, kept to its tables and as it is.
+fn are_same(kept: &Answer, own: &own::answer::Answer) -> bool {
+    use own::answer::Answer as Own;
+    match (kept, own) {
+        (Answer::Number(one), Own::Number(two)) => one == two,
+        (Answer::Row(one), Own::Row(two)) => one == two,
+        (Answer::Ended(one), Own::Ended(two)) => one == two,
+        (Answer::Refused(one), Own::Refused(two)) => one == two,
+        _ => false,
     }
 }
 

@@ -4,13 +4,13 @@
 use std::collections::BTreeSet;
 use std::fmt::{self, Display};
 
-use msft_typelib::c_header::{Declared, Lengths};
-use msft_typelib::coverage::{INLINE_CODES, stored_codes};
-use msft_typelib::exports::Export;
-use msft_typelib::exports::answer::Answer;
-use msft_typelib::exports::numbers::Numbers;
-use msft_typelib::readings::NOTHING;
-use msft_typelib::sheet::refusal;
+use bounded::c_header::{Declared, Lengths};
+use bounded::coverage::{INLINE_CODES, stored_codes};
+use bounded::exports::Export;
+use bounded::exports::answer::Answer;
+use bounded::exports::numbers::Numbers;
+use bounded::readings::NOTHING;
+use bounded::sheet::refusal;
 
 /// The highest number of a refusal.
 const LAST: usize = 13;

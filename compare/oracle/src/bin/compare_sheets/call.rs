@@ -1,9 +1,9 @@
 //! Compares the product's sheet call with the reference's sheet.
 
-use msft_typelib::comparing::guarded::Side;
-use msft_typelib::comparing::lent::{Lent, Written};
-use msft_typelib::product;
-use msft_typelib::sheet::{MOST_BYTES, refusal};
+use bounded::comparing::guarded::Side;
+use bounded::comparing::lent::{Lent, Written};
+use bounded::product;
+use bounded::sheet::{MOST_BYTES, refusal};
 
 /// How long an output is lent where the reply is a refusal at any length.
 const ROOM_FOR_REFUSED: usize = 4096;

@@ -1,5 +1,6 @@
 //! Compares the product's sheets with those made from the reference, on real, cut, damaged and
-//! made-up libraries.
+//! made-up libraries. All are held to the reference kept to its tables; where that had nothing to cut, it must
+//! answer as the reference itself does.
 //!
 //! - `compare_sheets [--seed S] [--count N]` tries the sheet call of the linked static library. If
 //!   none was named at build time, it only counts what the inputs cover.
@@ -21,9 +22,9 @@ use std::fs;
 use std::path::Path;
 use std::process::ExitCode;
 
-use msft_typelib::comparing::stopped;
-use msft_typelib::inputs::{Input, Inputs, edges};
-use msft_typelib::sheet::{MOST_BYTES, sheet};
+use bounded::comparing::stopped;
+use bounded::inputs::{Input, Inputs, edges, table_ends};
+use bounded::sheet::{MOST_BYTES, sheet};
 
 use options::{Options, What};
 use run::Run;
@@ -52,6 +53,7 @@ fn compare_calls(inputs: &Inputs, count: u64) -> ExitCode {
     let mut run = Run::new();
     let fixed = inputs.corpus().chain(inputs.beginnings());
     let fixed = fixed.chain(edges::small()).chain(edges::large());
+    let fixed = fixed.chain(table_ends::libraries());
     for input in fixed.chain(numbered(inputs, count)) {
         run.call(&input);
         if run.is_hopeless() {
@@ -66,7 +68,8 @@ fn compare_program(path: &Path, inputs: &Inputs, count: u64) -> ExitCode {
     let fixed = inputs
         .corpus()
         .chain(inputs.beginnings().step_by(PROGRAM_BEGINNINGS))
-        .chain(edges::small());
+        .chain(edges::small())
+        .chain(table_ends::libraries());
     for input in fixed.chain(numbered(inputs, count)) {
         run.program(path, &input);
         if run.is_hopeless() {

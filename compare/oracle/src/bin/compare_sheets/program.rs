@@ -6,7 +6,7 @@ use std::process::{ChildStdin, Command, Stdio};
 use std::thread;
 use std::time::Duration;
 
-use msft_typelib::sheet::program_line;
+use bounded::sheet::program_line;
 
 /// Some inputs are written in pieces of this many bytes, with a pause behind the first: a program
 /// that takes one read for all of its input then sees too little.

@@ -4,13 +4,15 @@ use std::path::Path;
 use std::process::ExitCode;
 use std::time::{Duration, Instant};
 
+use bounded::bounds::{Notes, Read, noting};
+use bounded::comparing::kinds::Kinds;
 #[cfg(product)]
-use msft_typelib::comparing::lent::Lent;
-use msft_typelib::comparing::shrink::shrink;
-use msft_typelib::comparing::{report, stopped};
-use msft_typelib::coverage::Coverage;
-use msft_typelib::inputs::Input;
-use msft_typelib::sheet::{MOST_BYTES, PROGRAM_BYTES};
+use bounded::comparing::lent::Lent;
+use bounded::comparing::shrink::shrink;
+use bounded::comparing::{report, stopped};
+use bounded::coverage::Coverage;
+use bounded::inputs::Input;
+use bounded::sheet::{MOST_BYTES, PROGRAM_BYTES};
 
 #[cfg(product)]
 use crate::call;
@@ -24,6 +26,8 @@ const SHRINKING: Duration = Duration::from_secs(20);
 
 pub struct Run {
     coverage: Coverage,
+    kinds: Kinds,
+    cut: Notes,
     tried: u64,
     differences: usize,
     started: Instant,
@@ -35,6 +39,8 @@ impl Run {
     pub fn new() -> Self {
         Run {
             coverage: Coverage::default(),
+            kinds: Kinds::default(),
+            cut: Notes::default(),
             tried: 0,
             differences: 0,
             started: Instant::now(),
@@ -52,7 +58,7 @@ impl Run {
     pub fn call(&mut self, input: &Input) {
         stopped::trying(&input.name);
         self.tried += 1;
-        let expected = self.coverage.sheet(&input.bytes, MOST_BYTES);
+        let expected = self.expected(&input.bytes, MOST_BYTES);
         #[cfg(product)]
         if let Some(difference) = call::difference(&mut self.lent, &input.bytes, &expected) {
             let small = shrink(&input.bytes, SHRINKING, |bytes| self.call_differs(bytes));
@@ -62,9 +68,21 @@ impl Run {
         drop(expected);
     }
 
+    /// The sheet of the reference kept to its tables. Where nothing was cut, it is the reference's own.
+    fn expected(&mut self, input: &[u8], room: usize) -> Result<Vec<u8>, u8> {
+        let (sheet, notes) = noting(|| self.coverage.sheet(input, room));
+        self.kinds.add(!notes.is_empty());
+        self.cut.add(notes);
+        if notes.is_empty() {
+            let own = msft_typelib::sheet::sheet(input, room);
+            assert!(sheet == own, "nothing was cut, and the Rust's own differs");
+        }
+        sheet
+    }
+
     #[cfg(product)]
     fn call_differs(&mut self, bytes: &[u8]) -> bool {
-        let expected = msft_typelib::sheet::sheet(bytes, MOST_BYTES);
+        let expected = bounded::sheet::sheet(bytes, MOST_BYTES);
         call::difference(&mut self.lent, bytes, &expected).is_some()
     }
 
@@ -73,7 +91,7 @@ impl Run {
         stopped::trying(&input.name);
         self.tried += 1;
         if input.bytes.len() <= PROGRAM_BYTES {
-            let _ = self.coverage.sheet(&input.bytes, PROGRAM_BYTES);
+            let _ = self.expected(&input.bytes, PROGRAM_BYTES);
         }
         if let Some(difference) = program::difference(path, &input.bytes) {
             let differs = |bytes: &[u8]| program::difference(path, bytes).is_some();
@@ -95,10 +113,13 @@ impl Run {
         println!("{}", self.coverage);
         let seconds = self.started.elapsed().as_secs_f64();
         println!("{} inputs in {seconds:.1} s", self.tried);
-        let missing = match whole {
-            true => self.coverage.missing(),
-            false => Vec::new(),
-        };
+        println!("{}", self.kinds);
+        println!("reads that were cut: {}", self.cut);
+        let mut missing = Vec::new();
+        if whole {
+            missing.extend(self.coverage.missing());
+            missing.extend(self.cut.missing(&Read::IN_SHEET));
+        }
         if !missing.is_empty() {
             println!("did not come up: {}", missing.join(", "));
         }

@@ -1,20 +1,21 @@
 //! Libraries that are read beside other bytes than they were parsed from. The reference cannot hold such a
-//! one, so the answers are document 01's, by `rules.rs`. Where the reference's own code answers when a
-//! library's numbers are put beside other bytes, it must answer the same.
+//! one, so the answers are document 01's and document 02's, by `rules.rs`. Where the reference's own code, kept to
+//! its tables, answers when a library's numbers are put beside other bytes, it must answer the same.
 //!
 //! That too many bytes are 1 to every entry is in no file: the replay has no memory for so many.
 
 mod rules;
 
-use msft_typelib::TypeLib;
-use msft_typelib::library::{
+use bounded::TypeLib;
+use bounded::library::{
     ARRAY_DESCRIPTOR_SEGMENT, Ask, CONSTANT_SEGMENT, GUID_SEGMENT, IMPORT_FILE_SEGMENT,
     IMPORT_SEGMENT, NAME_SEGMENT, Question, REFERENCE_SEGMENT, STRING_SEGMENT,
-    TYPE_DESCRIPTOR_SEGMENT, TYPEINFO_SEGMENT, answers, answers_beside,
+    TYPE_DESCRIPTOR_SEGMENT, TYPEINFO_SEGMENT, answers,
 };
-use msft_typelib::readings::Reading;
+use bounded::readings::Reading;
 
 use crate::file::Item;
+use crate::judged::{self, Asked};
 use crate::made_libraries::{Made, func, imp_file, name_entry, typeinfo, words};
 use crate::questions::{of_word, question};
 use rules::{Beside, Numbers};
@@ -28,13 +29,13 @@ const NAME_HASH_SEGMENT: usize = 6;
 pub struct Pair {
     own: Vec<u8>,
     lent: Vec<u8>,
-    pub asked: Vec<(Question, Vec<Reading>)>,
+    pub asked: Asked,
 }
 
 /// A library with every table beside bytes of the same length that hold another library, beside its own
 /// bytes cut off in the name table and in the offset table, beside bytes without a header, beside fewer
-/// than a header has, and beside none; a library without types or tables, and one of two types without
-/// tables, beside it.
+/// than a header has, beside none, and beside its own with a chain that comes round; a library without types or
+/// tables, and one of two types without tables, beside it.
 pub fn all() -> Vec<Pair> {
     let own = whole();
     let other = another(&own);
@@ -49,6 +50,7 @@ pub fn all() -> Vec<Pair> {
         pair(&own, &without_header, &some),
         pair(&own, &without_header[..60], &some),
         pair(&own, &[], &some),
+        pair(&own, &coming_round(&own), &some),
         pair(&Made::new(&[]).bytes(), &own, &some),
         pair(&Made::new(&[0, 0]).bytes(), &own, &some),
     ];
@@ -60,35 +62,33 @@ pub fn all() -> Vec<Pair> {
 pub fn items(pairs: &[Pair], first: u8) -> Vec<Item<'_>> {
     let mut items = Vec::new();
     for pair in pairs {
-        items.extend([Item::Lent(&pair.own), Item::Beside(&pair.lent)]);
-        let asked = pair.asked.iter();
-        items.extend(asked.map(|(question, readings)| Item::Question {
-            number: first + question.ask as u8,
-            numbers: question.numbers,
-            readings,
-        }));
+        items.extend([pair.asked.lent(&pair.own), Item::Beside(&pair.lent)]);
+        items.extend(pair.asked.items(first));
     }
     items
 }
 
-/// The pair with document 01's answers, which the reference must agree with where it is asked.
+/// The pair with the papers' answers, which the reference must agree with where it is asked.
 fn pair(own: &[u8], lent: &[u8], asked: &[Question]) -> Pair {
     let beside = Beside {
         own: Numbers::of(own),
         lent,
     };
-    let answered = |&question: &Question| {
+    let mut cut = 0;
+    let answered = asked.iter().map(|&question| {
         let readings = expected(beside.answers(question));
         if is_asked_of_reference(lent, question.ask) {
-            let told = answers_beside(own, lent, question);
+            let (told, is_cut) = judged::answer(own, lent, question);
             assert!(are_same(&readings, &told), "of the reference: {question:?}");
+            cut += usize::from(is_cut);
         }
         (question, readings)
-    };
+    });
+    let answered = answered.collect();
     Pair {
         own: own.to_vec(),
         lent: lent.to_vec(),
-        asked: asked.iter().map(answered).collect(),
+        asked: Asked { answered, cut },
     }
 }
 
@@ -119,7 +119,7 @@ fn are_same(a: &[Reading], b: &[Reading]) -> bool {
 /// by the numbers of the lent bytes, and every field of the header another one in the library's own bytes.
 fn tells_apart(pair: &Pair) {
     assert!(TypeLib::parse(&pair.lent).is_ok());
-    for (question, readings) in &pair.asked {
+    for (question, readings) in &pair.asked.answered {
         let needs_numbers = question.ask >= Ask::Segment || question.ask == Ask::TypeinfoCount;
         let from = if needs_numbers { &pair.lent } else { &pair.own };
         let other = answers(from, *question);
@@ -206,6 +206,14 @@ fn another(own: &[u8]) -> Vec<u8> {
         let (start, _) = Numbers::of(own).segment(segment).unwrap();
         put(&mut bytes, start + offset, word);
     }
+    bytes
+}
+
+/// The library with its second reference naming the first one.
+fn coming_round(own: &[u8]) -> Vec<u8> {
+    let (references, _) = Numbers::of(own).segment(REFERENCE_SEGMENT).unwrap();
+    let mut bytes = own.to_vec();
+    put(&mut bytes, references + 16 + 12, 0);
     bytes
 }
 

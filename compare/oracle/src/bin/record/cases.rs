@@ -2,10 +2,10 @@
 
 use std::collections::HashSet;
 
-use msft_typelib::readings::Kind;
+use bounded::readings::Kind;
 
-use msft_typelib::inputs::records::{self, Record};
-use msft_typelib::random::Random;
+use bounded::inputs::records::{self, Record};
+use bounded::random::Random;
 
 /// One question to all methods of a kind.
 #[derive(Clone, PartialEq, Eq, Hash)]

@@ -1,7 +1,7 @@
 //! Our own libraries with words changed: hostile numbers wherever they may stand.
 
 use crate::libraries::Library;
-use msft_typelib::random::Random;
+use bounded::random::Random;
 
 const SEED: u64 = 0x5446_534D_0001_0000;
 

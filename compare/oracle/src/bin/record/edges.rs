@@ -3,7 +3,7 @@
 //! Its refusals of more than 16,777,216 bytes and of more than 65,535 types are in no file: the bytes would
 //! be too many.
 
-use msft_typelib::library::{Ask, TYPE_DESCRIPTOR_SEGMENT, TYPEINFO_SEGMENT};
+use bounded::library::{Ask, TYPE_DESCRIPTOR_SEGMENT, TYPEINFO_SEGMENT};
 
 use crate::libraries::Library;
 use crate::made_libraries::{Made, TYPEINFO_SIZE, func, typeinfo};
@@ -189,6 +189,7 @@ fn funcs() -> Vec<Library> {
 fn expect(library: Library, ask: Ask, answers: &[&[u8]]) -> Library {
     let (_, readings) = library
         .asked
+        .answered
         .iter()
         .find(|(question, _)| question.ask == ask)
         .expect("the edge is asked for");

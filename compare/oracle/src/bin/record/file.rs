@@ -1,19 +1,23 @@
 //! The form of a recorded file, and what the replay of it prints.
 //!
 //! All numbers are little-endian. A file is u32 count of items, and the items. An item either lends
-//! the bytes that the questions behind it are about: `LENT`, u32 count of bytes and these; `BESIDE` in the
-//! same form lends other bytes, and the library that is asked stays the one in the bytes lent by `LENT`
+//! the bytes that the questions behind it are about: `LENT`, u32 count of bytes and these; `KEPT` in the same form,
+//! where the reference is kept to its tables for the answer to one of the questions; `BESIDE` in the
+//! same form lends other bytes, and the library that is asked stays the one in the bytes lent by `LENT` or `KEPT`
 //! last. Or it is a question: u8 number of what is asked, three numbers u32, u16 count of answer bytes and
-//! these, the answers one behind another as `msft_typelib::readings` and `msft_typelib::library` make them.
+//! these, the answers one behind another as `readings.rs` and `library.rs` make them.
 
-use msft_typelib::readings::{Reading, VALUE};
+use bounded::comparing::kinds::Kinds;
+use bounded::readings::{Reading, VALUE};
 
 /// The numbers that no question has.
 const LENT: u8 = 0xFF;
 const BESIDE: u8 = 0xFE;
+const KEPT: u8 = 0xFD;
 
 pub enum Item<'a> {
     Lent(&'a [u8]),
+    Kept(&'a [u8]),
     Beside(&'a [u8]),
     Question {
         number: u8,
@@ -28,13 +32,14 @@ pub fn bytes(items: &[Item]) -> Vec<u8> {
     for item in items {
         match item {
             Item::Lent(bytes) => lend(&mut file, LENT, bytes),
+            Item::Kept(bytes) => lend(&mut file, KEPT, bytes),
             Item::Beside(bytes) => lend(&mut file, BESIDE, bytes),
             Item::Question {
                 number,
                 numbers,
                 readings,
             } => {
-                assert!(*number < BESIDE);
+                assert!(*number < KEPT);
                 file.push(*number);
                 for number in numbers {
                     file.extend(number.to_le_bytes());
@@ -116,4 +121,17 @@ pub fn printed(items: &[Item], file: &str, first: u8, names: &[&str]) -> String 
         }
     }
     text + &all.line(file)
+}
+
+/// What the replay must print of the libraries in a file.
+pub fn printed_kinds(items: &[Item], file: &str) -> String {
+    let mut kinds = Kinds::default();
+    for item in items {
+        match item {
+            Item::Lent(_) => kinds.add(false),
+            Item::Kept(_) => kinds.add(true),
+            _ => {}
+        }
+    }
+    format!("{file}: {kinds}\n")
 }

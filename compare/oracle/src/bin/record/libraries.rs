@@ -2,15 +2,15 @@
 
 use std::collections::HashSet;
 
-use msft_typelib::library::{Question, answers};
-use msft_typelib::readings::Reading;
+use bounded::library::Question;
 
 use crate::file::Item;
-use crate::{changed, edges, made_libraries, questions};
+use crate::judged::{Asked, judged};
+use crate::{changed, edges, made_libraries, questions, table_ends};
 
 pub struct Library {
     pub bytes: Vec<u8>,
-    pub asked: Vec<(Question, Vec<Reading>)>,
+    pub asked: Asked,
 }
 
 impl Library {
@@ -33,16 +33,13 @@ impl Library {
         asked.extend(questions::of_sheet(&bytes));
         let mut seen = HashSet::new();
         asked.retain(|question| seen.insert(*question));
-        let asked = asked
-            .into_iter()
-            .map(|question| (question, answers(&bytes, question)))
-            .collect();
+        let asked = judged(&bytes, &bytes, &asked);
         Library { bytes, asked }
     }
 }
 
-/// Our own libraries from real IDL, document 01's edges, made-up libraries, and our own with words
-/// changed.
+/// Our own libraries from real IDL, document 01's edges, made-up libraries, our own with words changed, and
+/// records that end with their table or past it.
 pub fn all(own: &[Vec<u8>]) -> Vec<Library> {
     let mut libraries = Vec::new();
     libraries.extend(
@@ -52,6 +49,7 @@ pub fn all(own: &[Vec<u8>]) -> Vec<Library> {
     libraries.extend(edges::libraries());
     libraries.extend(made_libraries::all());
     libraries.extend(changed::all(own));
+    libraries.extend(table_ends::all());
     libraries
 }
 
@@ -59,17 +57,8 @@ pub fn all(own: &[Vec<u8>]) -> Vec<Library> {
 pub fn items(libraries: &[Library], first: u8) -> Vec<Item<'_>> {
     let mut items = Vec::new();
     for library in libraries {
-        items.push(Item::Lent(&library.bytes));
-        items.extend(
-            library
-                .asked
-                .iter()
-                .map(|(question, readings)| Item::Question {
-                    number: first + question.ask as u8,
-                    numbers: question.numbers,
-                    readings,
-                }),
-        );
+        items.push(library.asked.lent(&library.bytes));
+        items.extend(library.asked.items(first));
     }
     items
 }

@@ -1,6 +1,6 @@
 //! Libraries made up so that every case of every reading is reached.
 
-use msft_typelib::library::{
+use bounded::library::{
     ARRAY_DESCRIPTOR_SEGMENT, Ask, CONSTANT_SEGMENT, GUID_SEGMENT, IMPORT_FILE_SEGMENT,
     IMPORT_SEGMENT, NAME_SEGMENT, Question, REFERENCE_SEGMENT, STRING_SEGMENT,
     TYPE_DESCRIPTOR_SEGMENT, TYPEINFO_SEGMENT,

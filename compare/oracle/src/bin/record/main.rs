@@ -1,5 +1,5 @@
 //! Records what the reference answers to every method of every kind of record, and to every reading
-//! of a library.
+//! of a library, kept to its tables. Where nothing was cut it must answer the same as it is.
 //!
 //! `record` writes `crates/replay/data/records` and `data/libraries`; `data/beside`, questions about libraries
 //! beside other bytes, with document 01's answers; and `crates/replay/stdout`: what the replay must print.
@@ -12,18 +12,20 @@ mod cases;
 mod changed;
 mod edges;
 mod file;
+mod judged;
 mod libraries;
 mod made_libraries;
 mod questions;
 mod records;
 mod stats;
+mod table_ends;
 
 use std::path::{Path, PathBuf};
 use std::process::ExitCode;
 use std::{env, fs};
 
-use msft_typelib::library::Ask;
-use msft_typelib::readings::Kind;
+use bounded::library::Ask;
+use bounded::readings::Kind;
 
 /// The program that replays the answers, from the project root.
 const REPLAY: &str = "crates/replay";
@@ -47,6 +49,7 @@ fn main() -> ExitCode {
                 fs::write(from_project_root(path), bytes).expect("the file can be written");
                 println!("{path}: {} bytes", bytes.len());
             }
+            stats::kinds(&libraries, &pairs);
             ExitCode::SUCCESS
         }
         [option] if option == "--stats" => stats(&entries, &libraries, &pairs, &files),
@@ -72,6 +75,7 @@ fn stats(
     println!();
     let beside = stats::beside(pairs);
     println!();
+    stats::kinds(libraries, pairs);
     println!("every method of a record tried both ways: {records}");
     println!("every reading of a library tried each way: {readings}");
     println!("a library beside other bytes refused each way: {beside}");
@@ -105,7 +109,9 @@ fn files(
     let asks: Vec<&str> = Ask::ALL.iter().map(|ask| ask.name()).collect();
     let stdout = file::printed(&of_records, "records", 0, &kinds)
         + &file::printed(&of_libraries, "libraries", first, &asks)
-        + &file::printed(&of_pairs, "beside", first, &asks);
+        + &file::printed_kinds(&of_libraries, "libraries")
+        + &file::printed(&of_pairs, "beside", first, &asks)
+        + &file::printed_kinds(&of_pairs, "beside");
     vec![
         (format!("{REPLAY}/data/records"), file::bytes(&of_records)),
         (

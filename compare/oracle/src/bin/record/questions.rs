@@ -1,14 +1,12 @@
 //! The questions about a library: every reading, at the offsets and words that the library holds and
-//! at the edges of its tables.
+//! at the edges of its tables. What it holds is what the reference finds that is not kept to its tables.
 
 use std::collections::BTreeSet;
 
-use msft_typelib::library::TYPE_DESCRIPTOR_SEGMENT;
-use msft_typelib::library::{
-    ARRAY_DESCRIPTOR_SEGMENT, Ask, GUID_SEGMENT, IMPORT_SEGMENT, Question,
-};
-use msft_typelib::library::{CONSTANT_SEGMENT, IMPORT_FILE_SEGMENT, NAME_SEGMENT, STRING_SEGMENT};
-use msft_typelib::sheet::{PROGRAM_BYTES, sheet};
+use bounded::library::TYPE_DESCRIPTOR_SEGMENT;
+use bounded::library::{ARRAY_DESCRIPTOR_SEGMENT, Ask, GUID_SEGMENT, IMPORT_SEGMENT, Question};
+use bounded::library::{CONSTANT_SEGMENT, IMPORT_FILE_SEGMENT, NAME_SEGMENT, STRING_SEGMENT};
+use bounded::sheet::{PROGRAM_BYTES, sheet};
 use msft_typelib::{FuncRecord, TypeDescription, TypeInfoEntry, TypeLib};
 
 /// The most words that one reading is asked for in a library, beside the edges.
@@ -28,7 +26,7 @@ const FAR_WORDS: [u32; 5] = [
 ];
 
 pub fn question(ask: Ask, numbers: [u32; 3]) -> Question {
-    Question { ask, numbers }
+    Question::new(ask, numbers)
 }
 
 /// A reading of a word.

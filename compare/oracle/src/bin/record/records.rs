@@ -2,8 +2,9 @@
 
 use std::collections::HashSet;
 
-use msft_typelib::readings::{Kind, Reading, readings};
-use msft_typelib::{TypeLib, enumerate};
+use bounded::readings::{Kind, Reading, readings};
+use bounded::{TypeLib, enumerate};
+use msft_typelib::readings as own;
 
 use crate::cases::{self, Case};
 use crate::file::Item;
@@ -18,8 +19,14 @@ pub struct Entry {
 }
 
 impl Entry {
+    /// A record lies in no table, so nothing is cut.
     fn new(case: Case) -> Self {
         let readings = readings(case.kind, &case.lent, case.at, case.len, case.arg);
+        let kind = own::Kind::ALL[case.kind as usize];
+        let right = own::readings(kind, &case.lent, case.at, case.len, case.arg);
+        let pairs = readings.iter().zip(&right);
+        let is_same = pairs.into_iter().all(|(one, two)| one.answer == two.answer);
+        assert!(is_same && readings.len() == right.len(), "{kind:?}");
         Entry { case, readings }
     }
 

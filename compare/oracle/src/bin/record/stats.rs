@@ -3,8 +3,9 @@
 
 use std::collections::{BTreeMap, HashSet};
 
-use msft_typelib::library::{Ask, Question};
-use msft_typelib::readings::{Kind, Reading, VALUE};
+use bounded::comparing::kinds::Kinds;
+use bounded::library::{Ask, Question};
+use bounded::readings::{Kind, Reading, VALUE};
 
 use crate::beside::Pair;
 use crate::libraries::Library;
@@ -214,7 +215,7 @@ fn cases_to_see() -> HashSet<String> {
 
 /// Whether every case of a constant, of a description and of a reference was seen.
 fn sees_all_cases(libraries: &[Library]) -> bool {
-    let all = libraries.iter().flat_map(|library| &library.asked);
+    let all = libraries.iter().flat_map(|library| &library.asked.answered);
     let seen: HashSet<String> = all
         .filter_map(|(question, readings)| case_of(*question, readings))
         .collect();
@@ -242,7 +243,7 @@ struct Answered<'a> {
 impl<'a> Answered<'a> {
     fn of(libraries: &'a [Library], ask: Ask) -> Self {
         let mut answered = Answered::default();
-        let all = libraries.iter().flat_map(|library| &library.asked);
+        let all = libraries.iter().flat_map(|library| &library.asked.answered);
         for (_, readings) in all.filter(|(question, _)| question.ask == ask) {
             answered.questions += 1;
             for Reading { answer, .. } in readings {
@@ -267,7 +268,10 @@ impl<'a> Answered<'a> {
 /// Prints for each reading how often it was asked and answered, with a value or a refusal. Replies
 /// whether each was answered each way, and every case was seen.
 pub fn libraries(libraries: &[Library]) -> bool {
-    let questions: usize = libraries.iter().map(|library| library.asked.len()).sum();
+    let questions: usize = libraries
+        .iter()
+        .map(|library| library.asked.answered.len())
+        .sum();
     println!("{} libraries, {questions} questions", libraries.len());
     println!(
         "{:<24}{:>10}{:>9}{:>11}  refusals",
@@ -296,10 +300,26 @@ pub fn libraries(libraries: &[Library]) -> bool {
     complete & sees_all_cases(libraries)
 }
 
+/// Prints how many libraries the reference reads as it is, and at how many questions something was cut.
+pub fn kinds(libraries: &[Library], pairs: &[Pair]) {
+    let of_libraries = libraries.iter().map(|library| &library.asked);
+    let of_pairs = pairs.iter().map(|pair| &pair.asked);
+    for (file, all) in [
+        ("libraries", of_libraries.collect::<Vec<_>>()),
+        ("beside", of_pairs.collect()),
+    ] {
+        let mut kinds = Kinds::default();
+        all.iter().for_each(|asked| kinds.add(asked.is_kept()));
+        let questions: usize = all.iter().map(|asked| asked.answered.len()).sum();
+        let cut: usize = all.iter().map(|asked| asked.cut).sum();
+        println!("{file}: {kinds}: at {cut} of {questions} questions");
+    }
+}
+
 /// Prints what is asked of libraries beside other bytes. Replies whether each refusal came up that a
 /// reading can give there.
 pub fn beside(pairs: &[Pair]) -> bool {
-    let asked: Vec<_> = pairs.iter().flat_map(|pair| &pair.asked).collect();
+    let asked: Vec<_> = pairs.iter().flat_map(|pair| &pair.asked.answered).collect();
     let mut answers: BTreeMap<u8, usize> = BTreeMap::new();
     for (_, readings) in &asked {
         for reading in readings {

@@ -157,7 +157,8 @@ impl Tables {
         }
     }
 
-    /// Chains run upward, so that they end, unless the library has circles.
+    /// Chains run upward, so that they end, unless the library has circles. The last record mostly ends its chain:
+    /// it seldom names what lies behind the table.
     fn make_references(&mut self, random: &mut Random, character: &Character) {
         let count = random.one_of(&[0, 1, 2, 3, 5, 8, 20, 300]);
         for index in 0..count {
@@ -166,6 +167,7 @@ impl Tables {
                 2 if !character.circles => random.one_of(&[-2, i32::MIN, i32::MAX]),
                 2 => (random.below(count) * REFERENCE_SIZE) as i32,
                 3 => ((index + 1 + random.below(4)) * REFERENCE_SIZE) as i32,
+                4..18 if index + 1 == count => -1,
                 _ => ((index + 1) * REFERENCE_SIZE) as i32,
             };
             let [reference, flags, data] = [

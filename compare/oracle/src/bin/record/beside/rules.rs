@@ -1,7 +1,8 @@
 //! Document 01's rules for a library beside other bytes than it was parsed from: it is read by its own
-//! numbers, with the same checks. This follows no code of the product, and asks the reference nothing.
+//! numbers, with the same checks; and document 02's, that what is read of a table ends with it. This follows no
+//! code of the product, and asks the reference nothing.
 
-use msft_typelib::library::{Ask, Question};
+use bounded::library::{Ask, Question};
 
 /// An answer as a file has it: 0 and the value, or the number of the refusal alone.
 pub type Answer = Vec<u8>;
@@ -68,8 +69,7 @@ impl Beside<'_> {
             ask if ask < Ask::Segment => vec![self.header(ask)],
             ask if ask < Ask::NameBytes => vec![place(self.of_table(ask, first as usize))],
             Ask::TablePlace => {
-                let strict = first == 1;
-                let at = self.at(first as usize, third as i32, second as usize, strict);
+                let at = self.at(first as usize, third as i32, second as usize);
                 twice(place(at.map(|at| (at, second as usize))))
             }
             ask if ask < Ask::TypeinfoOffset => self.of_word(ask, first as i32),
@@ -163,12 +163,11 @@ impl Beside<'_> {
         Some((at, len))
     }
 
-    /// Where the bytes at an offset of a segment start. They end inside the file, and where it is
-    /// strict inside the segment too.
-    fn at(&self, segment: usize, offset: i32, size: usize, strict: bool) -> Option<usize> {
+    /// Where the bytes at an offset of a segment start. They end with the segment and with the file.
+    fn at(&self, segment: usize, offset: i32, size: usize) -> Option<usize> {
         let (start, len) = self.own.segment(segment)?;
         let offset = usize::try_from(offset).ok()?;
-        if strict && offset + size > len {
+        if offset + size > len {
             return None;
         }
         self.run(start + offset, size)?;
@@ -182,7 +181,7 @@ impl Beside<'_> {
             Ask::String => vec![place(self.string(word))],
             Ask::Guid => twice(place(self.guid(word))),
             Ask::TypeDesc => {
-                let at = self.at(9, word, 8, false);
+                let at = self.at(9, word, 8);
                 twice(bytes(at.and_then(|at| self.run(at, 8))))
             }
             Ask::ArrayDesc => twice(place(self.array_desc(word))),
@@ -201,9 +200,9 @@ impl Beside<'_> {
 
     /// A name's length is the ninth byte of its entry, and the name follows twelve.
     fn name(&self, offset: i32) -> Option<Place> {
-        let at = self.at(7, offset, 9, false)?;
+        let at = self.at(7, offset, 9)?;
         let text = (at + 12, usize::from(self.lent[at + 8]));
-        self.run(text.0, text.1)?;
+        self.at(7, offset, 12 + text.1)?;
         Some(text)
     }
 
@@ -215,20 +214,22 @@ impl Beside<'_> {
 
     /// A string has its length in two bytes before it.
     fn string(&self, offset: i32) -> Option<Place> {
-        let at = self.at(8, offset, 2, false)?;
-        self.utf8((at + 2, self.half(at)?))
+        let at = self.at(8, offset, 2)?;
+        let text = (at + 2, self.half(at)?);
+        self.at(8, offset, 2 + text.1)?;
+        self.utf8(text)
     }
 
     fn guid(&self, offset: i32) -> Option<Place> {
-        let at = self.at(5, offset, 16, false)?;
+        let at = self.at(5, offset, 16)?;
         Some((at, 16))
     }
 
     /// Eight bytes, and eight for each dimension; their count is at 0x04.
     fn array_desc(&self, offset: i32) -> Option<Place> {
-        let at = self.at(10, offset, 8, false)?;
+        let at = self.at(10, offset, 8)?;
         let size = 8 + 8 * self.half(at + 4)?;
-        self.run(at, size)?;
+        self.at(10, offset, size)?;
         Some((at, size))
     }
 
@@ -238,7 +239,7 @@ impl Beside<'_> {
         if word < 0 {
             return Some(base(word));
         }
-        let at = self.at(9, word, 8, false)?;
+        let at = self.at(9, word, 8)?;
         let (first, second) = (self.word(at)?, self.word(at + 4)?);
         let holds = |code| vec![[vec![0, code], second.to_le_bytes().to_vec()].concat()];
         Some(match first & 0x0FFF {
@@ -260,15 +261,16 @@ impl Beside<'_> {
             let value = word & 0x03FF_FFFF;
             return Some(vec![coded(code, &value.to_le_bytes())]);
         }
-        let at = self.at(11, word, 2, false)?;
+        let at = self.at(11, word, 2)?;
         let code = self.half(at)?;
+        self.at(11, word, 2 + stored_width(code))?;
         let value = self.run(at + 2, stored_width(code))?;
         Some(match code {
             8 => match self.word(at + 2)? {
                 -1 => vec![vec![0, 8, 0, 0]],
                 length => {
                     let length = usize::try_from(length).ok()?;
-                    self.run(at + 6, length)?;
+                    self.at(11, word, 6 + length)?;
                     vec![vec![0, 8, 0, 1], place(Some((at + 6, length)))]
                 }
             },
@@ -277,12 +279,12 @@ impl Beside<'_> {
         })
     }
 
-    /// Fourteen bytes inside the segment, the last two of them four times the length of the name that
-    /// follows, and padding to a multiple of four.
+    /// Fourteen bytes, the last two of them four times the length of the name that follows, and padding to a
+    /// multiple of four.
     fn imp_file(&self, offset: i32) -> Option<Place> {
-        let at = self.at(2, offset, 14, true)?;
+        let at = self.at(2, offset, 14)?;
         let size = (14 + self.half(at + 12)? / 4).next_multiple_of(4);
-        self.run(at, size)?;
+        self.at(2, offset, size)?;
         Some((at, size))
     }
 
@@ -303,7 +305,7 @@ impl Beside<'_> {
             let known = index[0] == 0;
             return known.then(|| vec![[vec![0, 1], index[1..].to_vec()].concat()]);
         }
-        let at = self.at(1, word & !3, 12, true)?;
+        let at = self.at(1, word & !3, 12)?;
         let file = self.imp_file(self.word(at + 4)?);
         Some(vec![vec![0, 2], place(Some((at, 12))), place(file)])
     }
@@ -317,15 +319,15 @@ impl Beside<'_> {
     }
 
     fn typeinfo(&self, index: usize) -> Answer {
-        let offset = self.typeinfo_offset(index).map(usize::try_from);
-        let Some(Ok(offset)) = offset else {
+        let offset = self.typeinfo_offset(index);
+        let Some(offset) = offset.filter(|&offset| offset >= 0) else {
             return vec![6];
         };
-        let Some((start, _)) = self.own.segment(0) else {
+        if self.own.segment(0).is_none() {
             return vec![7];
-        };
-        match self.run(start + offset, TYPEINFO_SIZE) {
-            Some(_) => place(Some((start + offset, TYPEINFO_SIZE))),
+        }
+        match self.at(0, offset, TYPEINFO_SIZE) {
+            Some(at) => place(Some((at, TYPEINFO_SIZE))),
             None => vec![8],
         }
     }
@@ -356,7 +358,9 @@ impl Beside<'_> {
         let mut at = start;
         while at + 12 <= start + len
             && let Some(entry) = self.run(at, 12)
-            && let Some(text) = self.utf8((at + 12, usize::from(entry[8])))
+            && let text = (at + 12, usize::from(entry[8]))
+            && text.0 + text.1 <= start + len
+            && let Some(text) = self.utf8(text)
         {
             entries.push((at, text));
             at = text.0 + text.1.next_multiple_of(4);
@@ -425,12 +429,9 @@ impl Beside<'_> {
 
     /// Import files one behind another, each inside the segment and the file.
     fn imp_files(&self) -> Vec<Answer> {
-        let (_, len) = self.own.table(2);
         let mut found = Vec::new();
         let mut offset = 0;
-        while let Some((at, size)) = self.imp_file(offset as i32)
-            && offset + size <= len
-        {
+        while let Some((at, size)) = self.imp_file(offset as i32) {
             found.push(place(Some((at, size))));
             offset += size;
         }
@@ -464,15 +465,15 @@ impl Beside<'_> {
     }
 
     /// The offsets of the chain that starts at a typeinfo's `datatype1`, and which of them it returns to.
-    /// They are counted from the start of the file if segment 3 is missing.
+    /// There are none if segment 3 is missing.
     fn chain(&self, record: Place) -> Option<(Vec<usize>, Option<usize>)> {
         let record = self.record(record)?;
-        let (start, _) = self.own.table(3);
         let mut next = word(&record[0x54..0x58]);
         let mut passed = Vec::new();
-        while let Ok(offset) = usize::try_from(next)
-            && let Some(reference) = self.run(start + offset, 16)
+        while let Some(at) = self.at(3, next, 16)
+            && let Some(reference) = self.run(at, 16)
         {
+            let offset = next as usize;
             let returned = passed.iter().position(|&one| one == offset);
             if returned.is_some() {
                 return Some((passed, returned));
