@@ -11,6 +11,9 @@ typedef int64_t reading(const uint8_t *lib, size_t lib_len, int32_t offset, uint
 /* The most bytes that one of these readings, or a step along a chain, writes. */
 enum { MOST_OUT = 40 };
 
+/* A hostile library can lead out of its tables millions of times: so many are told. */
+enum { MOST_TOLD = 100 };
+
 /* A pass over the library: the first counts what leads out, the second says where. */
 typedef struct search {
     const library *l;
@@ -28,7 +31,7 @@ static bool names_something(int64_t field)
 static void found(search *s, const char *part, const char *what, int64_t offset, const char *is)
 {
     s->found++;
-    if (s->says)
+    if (s->says && s->found <= MOST_TOLD)
         printf("  %s: %s%s, at offset 0x%lx, is %s\n", s->where.text, part, what,
                (unsigned long)offset, is);
 }
@@ -44,7 +47,7 @@ static void look(search *s, const char *part, const char *what, int64_t field, r
 
 static void look_at_guid(search *s, const char *part, const char *what, int64_t field)
 {
-    look(s, part, what, field, msft_guid, "not inside the GUID table");
+    look(s, part, what, field, msft_guid, "not inside the GUID table and the file");
 }
 
 /* A stored text whose length is below minus 1 is nothing wherever it lies. */
@@ -65,7 +68,7 @@ static bool has_no_length(const library *l, int64_t offset)
 static void look_at_constant(search *s, const char *what, int64_t field)
 {
     if (!has_no_length(s->l, field))
-        look(s, "", what, field, msft_const_value, "not inside the table of constants");
+        look(s, "", what, field, msft_const_value, "not inside the table of constants and the file");
 }
 
 /* Goes on to a type, a member or a parameter, and looks at its name. Replies where the words for what
@@ -81,7 +84,7 @@ static size_t enter(search *s, const char *what, size_t index, int64_t name)
             put_quoted(&s->where, words);
         }
     }
-    look(s, "", "its name", name, msft_name_bytes, "not inside the name table");
+    look(s, "", "its name", name, msft_name_bytes, "not inside the name table and the file");
     return before;
 }
 
@@ -101,7 +104,7 @@ static void look_at_import(search *s, const char *what, const msft_reference *r)
         look_at_guid(s, "the GUID in the import record of ", what,
                      msft_impinfo_guid_offset(BYTES(l), MSFT_PLACE(r->info)));
     look(s, "the import file of ", what, file, msft_imp_file,
-         "not inside the table of import files");
+         "not inside the table of import files and the file");
     if (r->has_file)
         look_at_guid(s, "the GUID in the import file of ", what,
                      msft_impfile_guid_offset(BYTES(l), MSFT_PLACE(r->file)));
@@ -116,7 +119,7 @@ static void look_at_reference(search *s, const char *what, int64_t hreftype)
         return;
     if (msft_resolve_hreftype_full(BYTES(s->l), msft_i32(hreftype), out, sizeof out) < 0) {
         found(s, "the import record of ", what, hreftype & ~INT64_C(0x01000003),
-              "not inside the table of imports");
+              "not inside the table of imports and the file");
         return;
     }
     msft_reference r = msft_unpack_reference(out);
@@ -129,10 +132,10 @@ static void found_descriptor(search *s, const char *what, int64_t field)
 {
     uint8_t out[8];
     if (msft_type_desc(BYTES(s->l), msft_i32(field), out, sizeof out) < 0)
-        found(s, "a type descriptor of ", what, field, "not inside the table of type descriptors");
+        found(s, "a type descriptor of ", what, field, "not inside the table of type descriptors and the file");
     else
         found(s, "an array descriptor of ", what, (int64_t)msft_le(out + 4, 2),
-              "not inside the table of array descriptors");
+              "not inside the table of array descriptors and the file");
 }
 
 static void look_at_type(search *s, const char *what, int64_t field)
@@ -211,7 +214,7 @@ static void look_at_chain(search *s, msft_place type)
         at = msft_unpack_chain_cursor(out + MSFT_STEP);
     }
     if (names_something(at.next))
-        found(s, "", "a record of its references", at.next, "not inside the table of references");
+        found(s, "", "a record of its references", at.next, "not inside the table of references and the file");
 }
 
 static void look_at_base(search *s, msft_place type)
@@ -249,7 +252,7 @@ static size_t outside(const library *l, bool says)
     search s = {l, says, 0, {0, ""}};
     put(&s.where, "the library");
     look(&s, "", "its name", msft_name_offset(BYTES(l)), msft_name_bytes,
-         "not inside the name table");
+         "not inside the name table and the file");
     look_at_guid(&s, "", "its GUID", msft_lib_guid_offset(BYTES(l)));
     leave(&s, 0);
     look_at_types(&s);
@@ -264,4 +267,6 @@ void print_outside(const library *l)
     printf(count == 1 ? "  %zu reading leads out of its table\n"
                       : "  %zu readings lead out of their tables\n", count);
     outside(l, true);
+    if (MOST_TOLD < count)
+        printf("  and %zu more\n", count - MOST_TOLD);
 }

@@ -10,7 +10,7 @@ enum { MOST_LEVELS = 32 };
 /* A cell of the listing. What does not fit is cut, and the cell then ends in "...". */
 typedef struct cell {
     size_t len;
-    char text[2048];
+    char text[4096];
 } cell;
 
 void clear(cell *c);

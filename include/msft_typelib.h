@@ -638,9 +638,8 @@ int64_t msft_type_desc(
 int64_t msft_array_desc(
     const uint8_t *lib, size_t lib_len, int32_t offset, uint8_t *out, size_t out_len);
 
-/* What a type field names, one level of it: a base type, or by a type descriptor, and by an
-   array descriptor where it asks for one. Writes a description (3, 5 or 17 bytes); -1 to -5, -9,
-   -12. */
+/* What a type field names, one level of it: a base type, or what a type descriptor names, and of
+   a C array its array descriptor. Writes a description (3, 5 or 17 bytes); -1 to -5, -9, -12. */
 int64_t msft_type_description(
     const uint8_t *lib, size_t lib_len, int32_t datatype, uint8_t *out, size_t out_len);
 

@@ -15,8 +15,8 @@ use Rattle.records.specs.Record.{limit}
 use Rattle.cursors.specs.declared.iterators.FuncCursor.{FuncCursor}
 use Rattle.cursors.specs.declared.iterators.VarCursor.{VarCursor}
 use Rattle.cursors.specs.declared.iterators.ParamCursor.{ParamCursor}
-use Rattle.typelib.specs.TableLaws.{lent-fits}
-use Rattle.typelib.specs.Tables.{lent}
+use Rattle.typelib.specs.TableLaws.{lent-fits, table-there, in-table}
+use Rattle.typelib.specs.Tables.{lent, inTable}
 use Rattle.cursors.specs.Cursors.{funcStepFrom, funcStep, varStepFrom, varStep, paramStepFrom, paramStep}
 use Rattle.cursors.specs.Cursors.{Step, yielded, ended, sizeAt, recordAt, blockFrom, blockWith, skip, fixedAt, paramCursor, paramAt}
 
@@ -94,17 +94,17 @@ recorded s pos end remaining least n =
 -- ---- records of one size
 
 module _ (s : List ℕ) (pos end size : ℕ) where
-  pub fixed-past : end < pos + size → refused 9 ≡ fixedAt s pos end size
+  -- by the test of where a table ends
+  pub fixed-in : inTable s (record { at = 0; len = end }) (pos + size) ≡ true → value (record { at = pos; len = size }) ≡ fixedAt s pos end size
   unfolding fixedAt
-  fixed-past h = rw (lt-ltb end (pos + size) h)
+  fixed-in h = rw h
 
-  pub fixed-cut : pos + size ≤ end → length s < pos + size → refused 9 ≡ fixedAt s pos end size
+  pub fixed-out : inTable s (record { at = 0; len = end }) (pos + size) ≡ false → refused 9 ≡ fixedAt s pos end size
   unfolding fixedAt
-  fixed-cut h k = rw (le-ltb end (pos + size) h, lt-ltb (length s) (pos + size) k)
+  fixed-out h = rw h
 
   pub fixed-there : pos + size ≤ end → pos + size ≤ length s → value (record { at = pos; len = size }) ≡ fixedAt s pos end size
-  unfolding fixedAt
-  fixed-there h k = rw (le-ltb end (pos + size) h, le-ltb (length s) (pos + size) k)
+  fixed-there h k = fixed-in (table-there s (record { at = 0; len = end }) (pos + size) h (omega (arith, k)))
 
 pub record Fixed (s : List ℕ) (pos end size : ℕ) (p : Place) : Type 0 where
   pub start : p .at ≡ pos
@@ -118,15 +118,17 @@ fixed s pos end size p =
     let P : Answer Place → Type 0 = λ a. value p ≡ a → Fixed s pos end size p in
     let no : (m : ℕ) → P (refused m) = λ m e. let z : _≡_ {A = ℕ} 0 1 = cc in absurd (omega arith) in
     cond-elim P (ltb limit (length s)) _ _ (λ _. no 1) (λ _.
-    cond-elim P (ltb end (pos + size)) _ _ (λ _. no 9) (λ h1.
-    cond-elim P (ltb (length s) (pos + size)) _ _ (λ _. no 9) (λ h2 e.
+    cond-elim P (inTable s (record { at = 0; len = end }) (pos + size)) _ _
+    (λ h e.
     let q : p ≡ record { at = pos; len = size } = cc in
+    let i = in-table s (record { at = 0; len = end }) (pos + size) h in
     record {
       start = ap (λ (x : Place). x .at) q;
-      inside = ltb-false (length s) (pos + size) h2;
-      within = ltb-false end (pos + size) h1;
+      inside = omega (arith, i .file);
+      within = i .segment;
       whole = ap (λ (x : Place). x .len) q;
-    })))
+    })
+    (λ _. no 9))
 
 pub param-none : (s : List ℕ) (c : ParamCursor) → c .remaining ≡ 0 → refused 9 ≡ paramAt s c
 unfolding paramAt

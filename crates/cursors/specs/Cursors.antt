@@ -17,7 +17,7 @@ use Rattle.cursors.specs.declared.iterators.FuncCursor.{FuncCursor}
 use Rattle.cursors.specs.declared.iterators.VarCursor.{VarCursor}
 use Rattle.cursors.specs.declared.iterators.ParamCursor.{ParamCursor}
 use Rattle.typelib.specs.declared.typeinfos.Counts.{Counts}
-use Rattle.typelib.specs.Tables.{lent, negative}
+use Rattle.typelib.specs.Tables.{lent, negative, inTable}
 use Rattle.typelib.specs.TypeInfos.{ofTypeInfo, countsOf}
 
 -- a record and the next cursor; or a refusal and a cursor, which is the same one at the end
@@ -103,11 +103,11 @@ varsOf s ti =
 
 -- ---- records of one size
 
--- the record of `size` bytes at pos, which ends by the table's end and by the file's
+-- The record of `size` bytes at pos, in a table or a function's record that ends at `end`: it ends as bytes of a table do, of one from
+-- the file's start to `end`.
 unfoldable pub fixedAt : List ℕ → ℕ → ℕ → ℕ → Answer Place
 fixedAt s pos end size =
-    cond (ltb end (pos + size)) (refused 9)
-    (cond (ltb (length s) (pos + size)) (refused 9) (value (record { at = pos; len = size })))
+    cond (inTable s (record { at = 0; len = end }) (pos + size)) (value (record { at = pos; len = size })) (refused 9)
 
 -- the parameters of a function are the last 12 bytes each of its record; none where they are more than the record
 unfoldable pub paramCursor : Place → ℕ → ParamCursor

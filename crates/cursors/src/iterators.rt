@@ -14,6 +14,7 @@ use records::answer::UsizeAnswer;
 use records::field;
 use records::field::LIMIT;
 use records::typeinfo::TypeInfoEntry;
+use typelib::tables;
 use typelib::typeinfos::Counts;
 use typelib::typeinfos::CountsAnswer;
 use util::NEGATIVE;
@@ -231,26 +232,18 @@ fn record_at(s: &[u8], pos: usize, end: usize, remaining: usize, least: usize) -
     UsizeAnswer::Value(size)
 }
 
-// The record of `size` bytes at `pos`: the one test of the records of one size. It serves the cursors over tables, too.
+// The record of `size` bytes at `pos`, in a table or a function's record that ends at `end`: the one test of the records of one size.
+// It serves the cursors over tables, too.
 pub fn fixed_at(s: &[u8], pos: usize, end: usize, size: usize) -> PlaceAnswer
     ensures { λ r. ⌜ toldPlace r ≡ lent (now (s .entry)) (fixedAt (now (s .entry)) pos end size) ⌝ }
 {
     if LIMIT < s.len() {
         return PlaceAnswer::Refused(1);
     }
-    if end < pos {
-        return PlaceAnswer::Refused(9);
+    if tables::in_table(s, Place { at: 0, len: end }, pos, size) {
+        return PlaceAnswer::Value(Place { at: pos, len: size });
     }
-    if end - pos < size {
-        return PlaceAnswer::Refused(9);
-    }
-    if s.len() < pos {
-        return PlaceAnswer::Refused(9);
-    }
-    if s.len() - pos < size {
-        return PlaceAnswer::Refused(9);
-    }
-    PlaceAnswer::Value(Place { at: pos, len: size })
+    PlaceAnswer::Refused(9)
 }
 
 fn param_at(s: &[u8], cursor: ParamCursor) -> PlaceAnswer

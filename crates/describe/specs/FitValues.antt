@@ -93,7 +93,7 @@ module _ (s : List ℕ) where
 
       name-short : (x : ℕ) → IfValue (λ p. p .len < 256 ^ 1) (nameBytes s lib x)
       name-short x =
-          answers-bind (anything (tablePlace s lib 7 x 9)) (λ intro _.
+          answers-bind (anything (tablePlace s lib 7 x 12)) (λ intro _.
           behind-short x (le 1 s (intro .at + 8)) (le-lt 1 s (intro .at + 8) octets))
 
       name-bytes : (x : ℕ) → IfValue (Fits name) (bytesIn s (nameBytes s lib x))

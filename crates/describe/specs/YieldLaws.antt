@@ -4,7 +4,7 @@ use mathlib.Core.Path.{_≡_, refl, _∙_, ap}
 use mathlib.Core.List.{List, [], _∷_}
 use Prim.Native.Nat.{ℕ, zero, suc, _+_, _-_, _≤_, _<_}
 use native.Mathlib.Omega.{arith}
-use lib.Dec.{ltb, eqb}
+use lib.Dec.{eqb}
 use lib.ListN.{length}
 use Rattle.util.specs.Read.{cond-elim}
 use Rattle.records.specs.declared.answer.Place.{Place}
@@ -84,16 +84,6 @@ pub record Yielded {C : Type 0} (s : List ℕ) (size : ℕ) (left : C → ℕ) (
   pub lessens : Lessens left c d
   pub holds : Holds s (p .at) (p .len) size
 
-fixed-start : (s : List ℕ) (pos end size : ℕ) (p : Place) → value p ≡ fixedAt s pos end size → p .at ≡ pos
-unfolding fixedAt
-fixed-start s pos end size p =
-    let P : Answer Place → Type 0 = λ a. value p ≡ a → p .at ≡ pos in
-    let no : P (refused 9) = λ e. absurd (let z : _≡_ {A = ℕ} 0 1 = cc in omega arith) in
-    cond-elim P (ltb end (pos + size)) _ _ (λ _. no) (λ _.
-    cond-elim P (ltb (length s) (pos + size)) _ _ (λ _. no) (λ _ e.
-    let q : p ≡ record { at = pos; len = size } = cc in
-    ap (λ (x : Place). x .at) q))
-
 module _ (s : List ℕ) where
   sized : (pos end remaining least n : ℕ) → value n ≡ lent s (recordAt s pos end remaining least) → (0 < remaining) × Holds s pos n least
   sized pos end remaining least n e =
@@ -108,8 +98,7 @@ module _ (s : List ℕ) where
       (λ _ f. absurd (let z : _≡_ {A = ℕ} 0 1 = cc in omega arith))
       (λ _ f.
       let x = fixed s (c .pos) (c .end) 12 p (lent-fits s (fixedAt s (c .pos) (c .end) 12) (value p) (v .few) f) in
-      let at : p .at ≡ c .pos = fixed-start s (c .pos) (c .end) 12 p f in
-      record { few = v .few; whole = omega (arith, x .whole); inside = omega (arith, x .whole, x .inside) })
+      record { few = v .few; whole = omega (arith, x .whole); inside = omega (arith, x .start, x .whole, x .inside) })
       (v .is)
 
   pub func-yielded : (c d : FuncCursor) (p : Place) → yielded p d ≡ funcStep s c → Yielded s (sizeOf funcRecord) (λ x. x .remaining) c d p

@@ -39,7 +39,7 @@ implTypesOf s lib ti =
 
 -- ---- one record
 
--- where the record at an offset lies: 9 where the offset is negative or the record leaves what bounds the table
+-- where the record at an offset lies: 9 where the offset is negative or the record leaves the table or the file
 abbrev pub referenceAt : List ℕ → Place → ℕ → Answer Place
 referenceAt s table offset = placeIn s table offset (sizeOf refRecord)
 

@@ -350,7 +350,7 @@ module _ (s : List ℕ) (c : ImplTypeCursor) where
     stands-round p k e m =
         walk-circle .1 (k, crowded (suc n) (omega arith) (passes-more n (h .passes) (stands-there p e)))
 
--- WITHOUT SEGMENT 3 a typeinfo's chain has no record, and the walk along it takes 0 (document 02, §2)
+-- WITHOUT SEGMENT 3 the walk along a typeinfo's chain takes 0 (document 02, §2)
 pub no-table : (s : List ℕ) (lib : TypeLib) (ti : TypeInfoEntry) (c : ImplTypeCursor) (n : ℕ) → length s ≤ limit → segmentOf lib 3 ≡ refused n → value c ≡ implTypesOf s lib ti → value 0 ≡ walkOf s c
 no-table s lib ti c n h missing = by (field typeInfoBase "datatype1" s (ti .at) (ti .len))
   where

@@ -58,7 +58,7 @@ head-length s at kind = simp (length-append, length-leBytes)
 module _ (s : List ℕ) (lib : TypeLib) where
   name-inside : (offset : ℕ) → IfValue (λ p. p .at + p .len ≤ length s) (nameBytes s lib offset)
   name-inside offset =
-      answers-bind (anything (tablePlace s lib 7 offset 9)) (λ intro _.
+      answers-bind (anything (tablePlace s lib 7 offset 12)) (λ intro _.
       let n : ℕ = le 1 s (intro .at + 8) in
       answers-map (λ p. record { at = p .at + 12; len = n })
       (told (tablePlace s lib 7 offset (12 + n)) (λ p e. found-place s lib 7 offset (12 + n) p e))

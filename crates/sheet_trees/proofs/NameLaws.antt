@@ -22,19 +22,19 @@ module _ (s : List ℕ) (lib : TypeLib) where
   near-none at offset n h k = absurd (omega (arith, h))
 
   -- what ends inside a table when it is longest and as far as `near` is inside wherever it is nearer and shorter
-  pub near-table : (table : Place) (near : ℕ) → length s ≤ limit → table ≡ tableOf (segmentOf lib 7) → near + 267 ≤ table .len
+  pub near-table : (table : Place) (near : ℕ) → length s ≤ limit → table ≡ tableOf (segmentOf lib 7) → 0 < table .len → near + 266 ≤ table .len
       → table .at + table .len ≤ length s → Near s lib (record { at = table .at; near = near })
-  near-table table near few e within inside offset n h k =
+  near-table table near few e some within inside offset n h k =
       lent-fits s _ _ few
-      (bind-value _ _ table _ (table-is (segmentOf lib 7) table e (omega (arith, within)))
+      (bind-value _ _ table _ (table-is (segmentOf lib 7) table e some)
       (place-there s table offset n (omega (arith, h, within, inside, few))
       (table-there s table (offset + n) (omega (arith, h, k, within)) (omega (arith, h, k, within, inside)))))
 
   pub near-name : (t : Names) (offset len : ℕ) → Near s lib t → offset < t .near → len < 256 → len ≡ orZero (read 1 s (t .at + offset + 8))
       → value (record { at = t .at + offset + 12; len = len }) ≡ nameBytes s lib offset
   near-name t offset len near h short e =
-      let intro = near offset 9 h (omega arith) in
-      let inside = found s lib 7 offset 9 _ intro in
+      let intro = near offset 12 h (omega arith) in
+      let inside = found s lib 7 offset 12 _ intro in
       bind-value _ _ _ _ intro
       (map-value _ _ _ _ (near offset (12 + len) h (omega (arith, short))) refl
       ∙ ap (nameBehind s lib offset) (read-zero 1 s (t .at + offset + 8) len (omega (arith, inside .inside)) e))

@@ -16,7 +16,7 @@ const NAME_TABLE: usize = 7;
 const LONGEST: usize = 12 + 255;
 
 // Where the table of names starts, and how many of its offsets are near: a name there is wholly inside the table, whatever its
-// length. None is in a table that passes the file's end.
+// length. In a table that passes the file's end no offset is near.
 pub struct Names {
     pub at: u32,
     pub near: u32,
@@ -31,7 +31,7 @@ pub fn names_of(s: &[u8], lib: &Numbers) -> Names
             if table.at + table.len <= s.len() {
                 return Names {
                     at: table.at as u32,
-                    near: (table.len - LONGEST) as u32,
+                    near: (table.len - LONGEST + 1) as u32,
                 };
             }
         }

@@ -1,5 +1,6 @@
 -- Laws of `Cursors`, a case each. Assumes nothing.
 use mathlib.Core.Path.{_≡_, refl, sym, _∙_, ap}
+use mathlib.Core.Bool.{Bool, true, false}
 use mathlib.Core.List.{List}
 use Prim.Native.Nat.{ℕ, _+_, _≤_, _<_}
 use native.Mathlib.Omega.{arith}
@@ -21,13 +22,13 @@ use Rattle.table_cursors.specs.declared.iterators.ImpFileCursor.{ImpFile
 use Rattle.table_cursors.specs.declared.iterators.NameCursor.{NameCursor}
 use Rattle.records.specs.declared.name.NameEntry.{NameEntry}
 use Rattle.table_cursors.specs.declared.iterators.TypeInfoCursor.{TypeInfoCursor}
-use Rattle.typelib.specs.TableLaws.{lent-fits}
-use Rattle.typelib.specs.Tables.{lent}
+use Rattle.typelib.specs.TableLaws.{lent-fits, in-table}
+use Rattle.typelib.specs.Tables.{lent, inTable}
 use Rattle.typelib.specs.TypeInfos.{typeinfoOf}
 use Rattle.table_cursors.specs.Cursors.{guidStepFrom, guidStep, importStepFrom, importStep, impFileStepFrom, impFileStep}
 use Rattle.cursors.specs.Cursors.{ended, fixedAt}
-use Rattle.cursors.specs.CursorLaws.{fixed, lent-value, lent-bind, lent-refused, stays, yields}
-use Rattle.table_cursors.specs.Cursors.{impFileEntry, typeinfoStepFrom, typeinfoStep, textBehind, nameEntryFrom, nameEntry, over, nameStepFrom, nameStep}
+use Rattle.cursors.specs.CursorLaws.{fixed, fixed-out, lent-value, lent-bind, lent-refused, stays, yields}
+use Rattle.table_cursors.specs.Cursors.{impFileEntry, typeinfoStepFrom, typeinfoStep, entryText, nameEntryFrom, nameEntry, over, nameStepFrom, nameStep}
 
 -- ---- typeinfos
 
@@ -72,12 +73,12 @@ lent-inner : {A : Type 0} (s : List ℕ) (a r : Answer A) → length s ≤ limit
 lent-inner s a r h e = e ∙ sym (lent-fits s a a h refl)
 
 module _ (s : List ℕ) (pos end n : ℕ) where
-  pub behind-value : (p : Place) → value p ≡ lent s (fixedAt s pos end (12 + n)) → value (record { at = pos + 12; len = n }) ≡ lent s (textBehind s pos end n)
+  pub behind-value : (p : Place) → value p ≡ lent s (fixedAt s pos end (12 + n)) → value (record { at = pos + 12; len = n }) ≡ lent s (entryText s pos end n)
   behind-value p e =
       let v = lent-value s p (fixedAt s pos end (12 + n)) e in
-      lent-fits s (textBehind s pos end n) _ (v .few) (map-value _ (fixedAt s pos end (12 + n)) p _ (v .is) refl)
+      lent-fits s (entryText s pos end n) _ (v .few) (map-value _ (fixedAt s pos end (12 + n)) p _ (v .is) refl)
 
-  pub behind-refused : (m : ℕ) → refused m ≡ lent s (fixedAt s pos end (12 + n)) → refused m ≡ lent s (textBehind s pos end n)
+  pub behind-refused : (m : ℕ) → refused m ≡ lent s (fixedAt s pos end (12 + n)) → refused m ≡ lent s (entryText s pos end n)
   behind-refused m e = lent-refused s (fixedAt s pos end (12 + n)) (map (λ (_ : Place). record { at = pos + 12; len = n })) m refl e
 
 module _ (s : List ℕ) (c : NameCursor) where
@@ -86,11 +87,11 @@ module _ (s : List ℕ) (c : NameCursor) where
   name-before h = rw (lt-ltb (c .pos) (c .start) h)
 
   fixed-gone : length s ≤ c .pos → refused 9 ≡ fixedAt s (c .pos) (c .end) 12
-  unfolding fixedAt
-  fixed-gone h =
-      cond-elim (λ (r : Answer Place). refused 9 ≡ r) (ltb (c .end) (c .pos + 12)) (refused 9) _
-      (λ _. refl)
-      (λ _. rw (lt-ltb (length s) (c .pos + 12) (omega (arith, h))))
+  fixed-gone h = by (inTable s (record { at = 0; len = c .end }) (c .pos + 12)) refl
+    where
+      by : (b : Bool) → inTable s (record { at = 0; len = c .end }) (c .pos + 12) ≡ b → refused 9 ≡ fixedAt s (c .pos) (c .end) 12
+      by true e = absurd (omega (arith, h, in-table s (record { at = 0; len = c .end }) (c .pos + 12) e .file))
+      by false e = fixed-out s (c .pos) (c .end) 12 e
 
   pub name-past : length s ≤ c .pos → refused 9 ≡ nameEntry s c
   unfolding nameEntry
@@ -104,13 +105,13 @@ module _ (s : List ℕ) (c : NameCursor) where
   name-none n l h e =
       rw (le-ltb (c .pos) (c .start) h, ← lent-inner s (fixedAt s (c .pos) (c .end) 12) (refused n) l e)
 
-  pub name-some : (p : Place) (a : Answer NameEntry) → c .start ≤ c .pos → value p ≡ lent s (fixedAt s (c .pos) (c .end) 12) → a ≡ map (nameEntryFrom s c) (textOf s (textBehind s (c .pos) (c .end) (le 1 s (c .pos + 8)))) → a ≡ nameEntry s c
+  pub name-some : (p : Place) (a : Answer NameEntry) → c .start ≤ c .pos → value p ≡ lent s (fixedAt s (c .pos) (c .end) 12) → a ≡ map (nameEntryFrom s c) (textOf s (entryText s (c .pos) (c .end) (le 1 s (c .pos + 8)))) → a ≡ nameEntry s c
   unfolding nameEntry
   name-some p a h e f = rw (le-ltb (c .pos) (c .start) h, ← lent-value s p (fixedAt s (c .pos) (c .end) 12) e .is) f
 
   -- its text, where the length of the bytes was looked at
-  pub name-text : (n : ℕ) (a b : Answer Place) → length s ≤ limit → n ≡ le 1 s (c .pos + 8) → a ≡ lent s (textBehind s (c .pos) (c .end) n) → b ≡ textOf s a → b ≡ textOf s (textBehind s (c .pos) (c .end) (le 1 s (c .pos + 8)))
-  name-text n a b h q e f = f ∙ ap (textOf s) (lent-inner s (textBehind s (c .pos) (c .end) n) a h e) ∙ ap (λ (m : ℕ). textOf s (textBehind s (c .pos) (c .end) m)) q
+  pub name-text : (n : ℕ) (a b : Answer Place) → length s ≤ limit → n ≡ le 1 s (c .pos + 8) → a ≡ lent s (entryText s (c .pos) (c .end) n) → b ≡ textOf s a → b ≡ textOf s (entryText s (c .pos) (c .end) (le 1 s (c .pos + 8)))
+  name-text n a b h q e f = f ∙ ap (textOf s) (lent-inner s (entryText s (c .pos) (c .end) n) a h e) ∙ ap (λ (m : ℕ). textOf s (entryText s (c .pos) (c .end) m)) q
 
 -- a text starts right behind the intro, and ends by the table's end and by the file's
 pub record Behind (s : List ℕ) (pos end : ℕ) (q : Place) : Type 0 where
@@ -118,8 +119,8 @@ pub record Behind (s : List ℕ) (pos end : ℕ) (q : Place) : Type 0 where
   pub inside : q .at + q .len ≤ length s
   pub within : q .at + q .len ≤ end
 
-text-behind : (s : List ℕ) (pos end n : ℕ) (q : Place) → length s ≤ limit → value q ≡ textBehind s pos end n → Behind s pos end q
-text-behind s pos end n q h = by (fixedAt s pos end (12 + n)) refl
+entry-text : (s : List ℕ) (pos end n : ℕ) (q : Place) → length s ≤ limit → value q ≡ entryText s pos end n → Behind s pos end q
+entry-text s pos end n q h = by (fixedAt s pos end (12 + n)) refl
   where
     by : (a : Answer Place) → fixedAt s pos end (12 + n) ≡ a → value q ≡ map (λ (_ : Place). record { at = pos + 12; len = n }) a → Behind s pos end q
     by (value p) e f =
@@ -142,7 +143,7 @@ module _ (s : List ℕ) (P : Place → Type 0) where
 
   module _ (c : NameCursor) (e : NameEntry) where
     abbrev text : Answer Place
-    text = textBehind s (c .pos) (c .end) (le 1 s (c .pos + 8))
+    text = entryText s (c .pos) (c .end) (le 1 s (c .pos + 8))
 
     map-place : (a : Answer Place) → ((q : Place) → value q ≡ a → P q) → value e ≡ map (nameEntryFrom s c) a → P (e .text)
     map-place (value q) h f =
@@ -167,7 +168,7 @@ module _ (s : List ℕ) (P : Place → Type 0) where
 
 pub name-behind : (s : List ℕ) (c : NameCursor) (e : NameEntry) → value e ≡ lent s (nameEntry s c) → Behind s (c .pos) (c .end) (e .text)
 name-behind s c e =
-    name-place s (Behind s (c .pos) (c .end)) c e (text-behind s (c .pos) (c .end) (le 1 s (c .pos + 8)))
+    name-place s (Behind s (c .pos) (c .end)) c e (entry-text s (c .pos) (c .end) (le 1 s (c .pos + 8)))
 
 -- ---- a cursor that has yielded nothing
 

@@ -1,4 +1,5 @@
--- What a cursor over a table yields in one step, as one `next` of the source's iterators. Assumes nothing.
+-- What a cursor over a table yields in one step, as one `next` of the source's iterators, kept to its table (document 02, §2). Assumes
+-- nothing.
 use mathlib.Core.Bool.{cond}
 use mathlib.Core.List.{List}
 use Prim.Native.Nat.{ℕ, _+_, _-_, _*_, _/_}
@@ -95,8 +96,8 @@ typeinfoStep s lib c =
 -- ---- names
 
 -- where the text of n bytes behind the intro at pos lies: the entry, its text included, ends by the table's end and by the file's
-abbrev pub textBehind : List ℕ → ℕ → ℕ → ℕ → Answer Place
-textBehind s pos end n = map (λ _. record { at = pos + sizeOf nameIntro; len = n }) (fixedAt s pos end (sizeOf nameIntro + n))
+abbrev pub entryText : List ℕ → ℕ → ℕ → ℕ → Answer Place
+entryText s pos end n = map (λ _. record { at = pos + sizeOf nameIntro; len = n }) (fixedAt s pos end (sizeOf nameIntro + n))
 
 -- what stands before a name, with the place of its text
 abbrev pub nameEntryFrom : List ℕ → NameCursor → Place → NameEntry
@@ -115,7 +116,7 @@ unfoldable pub nameEntry : List ℕ → NameCursor → Answer NameEntry
 nameEntry s c =
     cond (ltb (c .pos) (c .start)) (refused 9)
     (bind (fixedAt s (c .pos) (c .end) (sizeOf nameIntro)) (λ _.
-    map (nameEntryFrom s c) (textOf s (textBehind s (c .pos) (c .end) (le 1 s (c .pos + offsetOf nameIntro "namelen"))))))
+    map (nameEntryFrom s c) (textOf s (entryText s (c .pos) (c .end) (le 1 s (c .pos + offsetOf nameIntro "namelen"))))))
 
 -- the next entry starts behind the text, filled up to a multiple of four
 abbrev pub nameStepFrom : NameCursor → Answer NameEntry → NameYield

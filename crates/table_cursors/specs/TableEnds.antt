@@ -1,125 +1,153 @@
--- A cursor over a table ends where the table does: what it yields is what `placeIn` of `typelib` finds at that offset, and a name that
--- it yields is the name that is read there. Assumes nothing.
+-- A library's cursors over tables yield what is read at their offset of the table. Where a table ends is one definition for both,
+-- `inTable` of `typelib`; a cursor asks it of the bytes from the file's start to its own end. Assumes nothing.
 use mathlib.Core.Path.{_≡_, refl, sym, _∙_, ap}
 use mathlib.Core.Bool.{Bool, true, false}
 use mathlib.Core.List.{List}
-use Prim.Native.Nat.{ℕ, _+_, _-_, _*_, _/_, _≤_, _<_}
+use Prim.Native.Nat.{ℕ, _+_, _-_, _≤_, _<_}
 use native.Mathlib.Omega.{arith}
 use lib.Dec.{leb, ltb}
 use lib.ListN.{length}
-use borrow.Author.Tests.{leb-true, leb-false, ltb-false}
+use borrow.Author.Tests.{lt-leb, leb-true, leb-false, le-leb}
 use Rattle.util.specs.Read.{le, cond-elim}
 use Rattle.records.specs.declared.answer.Place.{Place}
 use Rattle.records.specs.declared.name.NameEntry.{NameEntry}
 use Rattle.records.specs.Answer.{Answer, value, refused, map, bind}
 use Rattle.records.specs.AnswerLaws.{bind-value}
-use Rattle.records.specs.Counted.{textOf}
+use Rattle.records.specs.Counted.{impFileSize, textOf}
 use Rattle.records.specs.Record.{limit}
 use Rattle.cursors.specs.Cursors.{fixedAt}
-use Rattle.cursors.specs.CursorLaws.{fixed, fixed-past, fixed-cut, fixed-there}
+use Rattle.cursors.specs.CursorLaws.{fixed, fixed-in, fixed-out, fixed-there}
 use Rattle.typelib.specs.declared.TypeLib.{TypeLib}
-use Rattle.typelib.specs.Names.{nameBehind, nameBytes, nameText}
-use Rattle.typelib.specs.Tables.{lent, segmentOf, inTable, placeIn, tablePlace, tableOf}
+use Rattle.typelib.specs.Names.{nameBytes, nameText}
+use Rattle.typelib.specs.References.{impFileAt}
+use Rattle.typelib.specs.Tables.{segmentOf, inTable, placeIn, tablePlace, tableOf}
 use Rattle.typelib.specs.TableLaws.{lent-fits, table-is, place-out, place-there}
 use Rattle.table_cursors.specs.declared.iterators.NameCursor.{NameCursor}
-use Rattle.table_cursors.specs.Cursors.{textBehind, nameEntryFrom, nameEntry, entry, nameStepFrom, nameStep, namesIn}
+use Rattle.table_cursors.specs.Cursors.{impFileEntry, entryText, nameEntryFrom, nameEntry}
 
-module _ (s : List ℕ) (table : Place) (offset size : ℕ) (few : offset < 0x80000000) where
-  -- whether the bytes end by the segment's end, and whether by the file's
-  by-ends : (a b : Bool) → leb (offset + size) (table .len) ≡ a → leb (table .at + (offset + size)) (length s) ≡ b → fixedAt s (table .at + offset) (table .at + table .len) size ≡ placeIn s table offset size
-  by-ends true true e f =
-      let h = leb-true (offset + size) (table .len) e in
-      let k = leb-true (table .at + (offset + size)) (length s) f in
-      let i : inTable s table (offset + size) ≡ true = rw (e, f) refl in
-      sym (fixed-there s (table .at + offset) (table .at + table .len) size (omega (arith, h)) (omega (arith, k))) ∙ place-there s table offset size few i
-  by-ends true false e f =
-      let h = leb-true (offset + size) (table .len) e in
-      let k = leb-false (table .at + (offset + size)) (length s) f in
-      let i : inTable s table (offset + size) ≡ false = rw (e, f) refl in
-      sym (fixed-cut s (table .at + offset) (table .at + table .len) size (omega (arith, h)) (omega (arith, k))) ∙ place-out s table offset size few i
-  by-ends false b e f =
-      let h = leb-false (offset + size) (table .len) e in
-      let i : inTable s table (offset + size) ≡ false = rw e refl in
-      sym (fixed-past s (table .at + offset) (table .at + table .len) size (omega (arith, h))) ∙ place-out s table offset size few i
+-- ---- one record
 
-  -- A CURSOR'S RECORD is the one that lies at its offset of the table
-  pub cursor-place : fixedAt s (table .at + offset) (table .at + table .len) size ≡ placeIn s table offset size
-  cursor-place = by-ends (leb (offset + size) (table .len)) (leb (table .at + (offset + size)) (length s)) refl refl
-
--- ---- names
-
--- the cursor goes over the library's own table of names, as `names` gave it and every step leaves it
-pub record Own (lib : TypeLib) (c : NameCursor) : Type 0 where
-  pub start : c .start ≡ tableOf (segmentOf lib 7) .at
-  pub end : c .end ≡ tableOf (segmentOf lib 7) .at + tableOf (segmentOf lib 7) .len
-
-pub own : (lib : TypeLib) → Own lib (namesIn lib)
-own lib = record { start = refl; end = refl }
-
-pub own-step : (s : List ℕ) (lib : TypeLib) (c d : NameCursor) (e : NameEntry) → Own lib c → entry e d ≡ nameStep s c → Own lib d
-own-step s lib c d e o = go (lent s (nameEntry s c))
+-- bytes of a table, counted from its start, end as the same bytes do when they are counted from the file's
+ends-same : (s : List ℕ) (table : Place) (end : ℕ) → inTable s (record { at = 0; len = table .at + table .len }) (table .at + end) ≡ inTable s table end
+ends-same s table end = by (leb end (table .len)) refl
   where
-    go : (a : Answer NameEntry) → entry e d ≡ nameStepFrom c a → Own lib d
-    go (value x) f =
-        let q : d ≡ record { pos = x .text .at + (x .text .len + 3) / 4 * 4; end = c .end; start = c .start } = cc in
-        record { start = ap (λ (y : NameCursor). y .start) q ∙ o .start; end = ap (λ (y : NameCursor). y .end) q ∙ o .end }
-    go (refused n) f = let z : _≡_ {A = ℕ} 0 1 = cc in absurd (omega arith)
+    file : leb (0 + (table .at + end)) (length s) ≡ leb (table .at + end) (length s)
+    file = ap (λ (n : ℕ). leb n (length s)) (omega arith)
+
+    by : (b : Bool) → leb end (table .len) ≡ b → inTable s (record { at = 0; len = table .at + table .len }) (table .at + end) ≡ inTable s table end
+    by true e = rw (e, le-leb (table .at + end) (table .at + table .len) (omega (arith, leb-true end (table .len) e))) file
+    by false e = rw (e, lt-leb (table .at + end) (table .at + table .len) (omega (arith, leb-false end (table .len) e))) refl
+
+-- A CURSOR'S RECORD is the one that lies at its offset of the table
+pub cursor-place : (s : List ℕ) (table : Place) (offset size : ℕ) → offset < 0x80000000 → fixedAt s (table .at + offset) (table .at + table .len) size ≡ placeIn s table offset size
+cursor-place s table offset size small = by (inTable s table (offset + size)) refl
+  where
+    counted : table .at + offset + size ≡ table .at + (offset + size)
+    counted = omega arith
+
+    same : inTable s (record { at = 0; len = table .at + table .len }) (table .at + offset + size) ≡ inTable s table (offset + size)
+    same = ap (λ (n : ℕ). inTable s (record { at = 0; len = table .at + table .len }) n) counted ∙ ends-same s table (offset + size)
+
+    by : (b : Bool) → inTable s table (offset + size) ≡ b → fixedAt s (table .at + offset) (table .at + table .len) size ≡ placeIn s table offset size
+    by true e =
+        sym (fixed-in s (table .at + offset) (table .at + table .len) size (same ∙ e)) ∙ place-there s table offset size small e
+    by false e =
+        sym (fixed-out s (table .at + offset) (table .at + table .len) size (same ∙ e)) ∙ place-out s table offset size small e
+
+-- ---- a library's own cursors
+
+-- A cursor at pos goes over segment k of the library: `guids`, `names`, `imports` and `imp_files` give it so, and a step leaves it so,
+-- since it goes forward and keeps the end.
+pub record Own (lib : TypeLib) (k pos end : ℕ) : Type 0 where
+  pub behind : tableOf (segmentOf lib k) .at ≤ pos
+  pub ends : end ≡ tableOf (segmentOf lib k) .at + tableOf (segmentOf lib k) .len
+
+pub own : (lib : TypeLib) (k : ℕ) → Own lib k (tableOf (segmentOf lib k) .at) (tableOf (segmentOf lib k) .at + tableOf (segmentOf lib k) .len)
+own lib k = record { behind = omega arith; ends = refl }
+
+pub own-on : (lib : TypeLib) (k pos end n : ℕ) → Own lib k pos end → Own lib k (pos + n) end
+own-on lib k pos end n o = record { behind = omega (arith, o .behind); ends = o .ends }
+
+module _ (s : List ℕ) (lib : TypeLib) (k pos end : ℕ) (few : length s ≤ limit) (o : Own lib k pos end) where
+  abbrev offset : ℕ
+  offset = pos - tableOf (segmentOf lib k) .at
+
+  -- the bytes at a cursor inside its table and the file are those at its offset of the table, as many as they are
+  pub own-place : pos < end → pos ≤ length s → (size : ℕ) → fixedAt s pos end size ≡ tablePlace s lib k offset size
+  own-place some inside size =
+      lent-fits s (bind (segmentOf lib k) (λ t. placeIn s t offset size)) (fixedAt s pos end size) few
+      (bind-value (λ t. placeIn s t offset size) (segmentOf lib k) table (fixedAt s pos end size)
+      (table-is (segmentOf lib k) table refl (omega (arith, o .behind, o .ends, some)))
+      (ap (λ (x : ℕ). fixedAt s x end size) at ∙ ap (λ (x : ℕ). fixedAt s (table .at + offset) x size) (o .ends)
+      ∙ cursor-place s table offset size (omega (arith, inside, few))))
+    where
+      table : Place
+      table = tableOf (segmentOf lib k)
+
+      at : pos ≡ table .at + offset
+      at = omega (arith, o .behind)
+
+-- ---- import files, by their fixed part and by the whole
+
+-- AN IMPORT FILE THAT THE CURSOR YIELDS is the one that is read at its offset
+pub cursor-import-file : (s : List ℕ) (lib : TypeLib) (pos end : ℕ) (p : Place) → length s ≤ limit → Own lib 2 pos end
+    → value p ≡ impFileEntry s pos end → value p ≡ impFileAt s lib (pos - tableOf (segmentOf lib 2) .at)
+unfolding impFileEntry
+cursor-import-file s lib pos end p few o = by (fixedAt s pos end 14) refl
+  where
+    by : (a : Answer Place) → fixedAt s pos end 14 ≡ a → value p ≡ bind a (λ (_ : Place). fixedAt s pos end (impFileSize (le 2 s (pos + 12))))
+        → value p ≡ impFileAt s lib (pos - tableOf (segmentOf lib 2) .at)
+    by (value q) e g =
+        let x = fixed s pos end 14 q (lent-fits s (fixedAt s pos end 14) (value q) few (sym e)) in
+        let placed = own-place s lib 2 pos end few o (omega (arith, x .within)) (omega (arith, x .inside)) in
+        bind-value _ _ q _ (sym e ∙ placed 14)
+        (g ∙ placed (impFileSize (le 2 s (pos + 12)))
+        ∙ ap (λ (at : ℕ). tablePlace s lib 2 (pos - tableOf (segmentOf lib 2) .at) (impFileSize (le 2 s (at + 12)))) (sym (x .start)))
+    by (refused n) e g = let z : _≡_ {A = ℕ} 0 1 = cc in absurd (omega arith)
+
+-- ---- names, with their texts
 
 map-same : (f g : Place → Place) (a : Answer Place) → ((p : Place) → value p ≡ a → f p ≡ g p) → map f a ≡ map g a
 map-same f g (value p) h = ap value (h p refl)
 map-same f g (refused n) h = refl
 
-module _ (s : List ℕ) (lib : TypeLib) (c : NameCursor) (few : length s ≤ limit) (o : Own lib c) where
-  abbrev table : Place
-  table = tableOf (segmentOf lib 7)
+module _ (s : List ℕ) (lib : TypeLib) (c : NameCursor) (few : length s ≤ limit) (o : Own lib 7 (c .pos) (c .end)) where
+  abbrev at-offset : ℕ
+  at-offset = c .pos - tableOf (segmentOf lib 7) .at
 
-  module _ (before : c .start ≤ c .pos) (intro : c .pos + 12 ≤ length s) (within : c .pos + 12 ≤ c .end) where
-    abbrev offset : ℕ
-    offset = c .pos - c .start
+  bytes-same : c .pos + 12 ≤ length s → c .pos + 12 ≤ c .end → entryText s (c .pos) (c .end) (le 1 s (c .pos + 8)) ≡ nameBytes s lib at-offset
+  bytes-same inside within =
+      bind-value _ _ (record { at = c .pos; len = 12 }) _
+      (fixed-there s (c .pos) (c .end) 12 within inside ∙ placed 12)
+      (map-same _ _ (fixedAt s (c .pos) (c .end) (12 + n)) (λ p e.
+      ap (λ (x : ℕ). record { at = x + 12; len = n }) (sym (fixed s (c .pos) (c .end) (12 + n) p (lent-fits s _ _ few e) .start)))
+      ∙ ap (map (λ (p : Place). record { at = p .at + 12; len = n })) (placed (12 + n)))
+    where
+      n : ℕ
+      n = le 1 s (c .pos + 8)
 
-    at-offset : table .at + offset ≡ c .pos
-    at-offset = omega (arith, o .start, before)
-
-    -- bytes behind the cursor's place are bytes of the table at its offset
-    placed : (size : ℕ) → tablePlace s lib 7 offset size ≡ fixedAt s (c .pos) (c .end) size
-    placed size =
-        sym (lent-fits s (bind (segmentOf lib 7) (λ t. placeIn s t offset size)) (fixedAt s (c .pos) (c .end) size) few
-        (bind-value (λ t. placeIn s t offset size) (segmentOf lib 7) table (fixedAt s (c .pos) (c .end) size)
-        (table-is (segmentOf lib 7) table refl (omega (arith, o .start, o .end, before, within)))
-        (ap (λ (x : ℕ). fixedAt s x (c .end) size) (sym at-offset) ∙ ap (λ (x : ℕ). fixedAt s (table .at + offset) x size) (o .end)
-        ∙ cursor-place s table offset size (omega (arith, intro, few)))))
-
-    behind-same : (n : ℕ) → textBehind s (c .pos) (c .end) n ≡ nameBehind s lib offset n
-    behind-same n =
-        map-same _ _ (fixedAt s (c .pos) (c .end) (12 + n)) (λ p e.
-        ap (λ (x : ℕ). record { at = x + 12; len = n }) (sym (fixed s (c .pos) (c .end) (12 + n) p (lent-fits s _ _ few e) .start)))
-        ∙ ap (map (λ (p : Place). record { at = p .at + 12; len = n })) (sym (placed (12 + n)))
-
-    bytes-same : textBehind s (c .pos) (c .end) (le 1 s (c .pos + 8)) ≡ nameBytes s lib offset
-    bytes-same =
-        let there : value (record { at = c .pos; len = 9 }) ≡ tablePlace s lib 7 offset 9 =
-        fixed-there s (c .pos) (c .end) 9 (omega (arith, within)) (omega (arith, intro)) ∙ sym (placed 9) in
-        bind-value _ _ _ _ there (behind-same (le 1 s (c .pos + 8)))
+      placed : (size : ℕ) → fixedAt s (c .pos) (c .end) size ≡ tablePlace s lib 7 at-offset size
+      placed = own-place s lib 7 (c .pos) (c .end) few o (omega (arith, within)) (omega (arith, inside))
 
   -- A NAME THAT THE CURSOR YIELDS is the one that is read at its offset
-  pub cursor-name : (e : NameEntry) → value e ≡ nameEntry s c → value (e .text) ≡ nameText s lib (e .offset)
+  pub cursor-name : (e : NameEntry) → value e ≡ nameEntry s c → value (e .text) ≡ nameText s lib at-offset
   unfolding nameEntry
   cursor-name e =
-      cond-elim (λ (r : Answer NameEntry). value e ≡ r → value (e .text) ≡ nameText s lib (e .offset)) (ltb (c .pos) (c .start)) _ _
+      cond-elim (λ (r : Answer NameEntry). value e ≡ r → value (e .text) ≡ nameText s lib at-offset) (ltb (c .pos) (c .start)) _ _
       (λ _ g. let z : _≡_ {A = ℕ} 0 1 = cc in absurd (omega arith))
-      (λ h. by (ltb-false (c .pos) (c .start) h) (fixedAt s (c .pos) (c .end) 12) refl)
+      (λ _. by (fixedAt s (c .pos) (c .end) 12) refl)
     where
       text : Answer Place
-      text = textOf s (textBehind s (c .pos) (c .end) (le 1 s (c .pos + 8)))
+      text = textOf s (entryText s (c .pos) (c .end) (le 1 s (c .pos + 8)))
 
-      named : (a : Answer Place) → a ≡ nameText s lib (c .pos - c .start) → value e ≡ map (nameEntryFrom s c) a → value (e .text) ≡ nameText s lib (e .offset)
+      named : (a : Answer Place) → a ≡ nameText s lib at-offset → value e ≡ map (nameEntryFrom s c) a → value (e .text) ≡ nameText s lib at-offset
       named (value q) same g =
           let x : e ≡ nameEntryFrom s c q = cc in
-          ap (λ (y : NameEntry). value (y .text)) x ∙ same ∙ ap (λ (y : NameEntry). nameText s lib (y .offset)) (sym x)
+          ap (λ (y : NameEntry). value (y .text)) x ∙ same
       named (refused n) same g = let z : _≡_ {A = ℕ} 0 1 = cc in absurd (omega arith)
 
-      by : c .start ≤ c .pos → (a : Answer Place) → fixedAt s (c .pos) (c .end) 12 ≡ a → value e ≡ bind a (λ (_ : Place). map (nameEntryFrom s c) text) → value (e .text) ≡ nameText s lib (e .offset)
-      by before (value p) f g =
+      by : (a : Answer Place) → fixedAt s (c .pos) (c .end) 12 ≡ a → value e ≡ bind a (λ (_ : Place). map (nameEntryFrom s c) text) → value (e .text) ≡ nameText s lib at-offset
+      by (value p) f g =
           let x = fixed s (c .pos) (c .end) 12 p (lent-fits s _ _ few (sym f)) in
-          named text (ap (textOf s) (bytes-same before (x .inside) (x .within))) g
-      by before (refused n) f g = let z : _≡_ {A = ℕ} 0 1 = cc in absurd (omega arith)
+          named text (ap (textOf s) (bytes-same (x .inside) (x .within))) g
+      by (refused n) f g = let z : _≡_ {A = ℕ} 0 1 = cc in absurd (omega arith)

@@ -1,8 +1,7 @@
 // Cursors over the tables of a library: iterators.rs of the source.
 //
-// A cursor goes in by value and comes back. One step replies as one `next` of the source: the record
-// and the next cursor, or a refusal and the same cursor. 9 is the end; the typeinfo cursor also goes
-// on after a refusal 6, 7 or 8.
+// A cursor goes in by value and comes back. One step replies as one `next` of the source, kept to its table as document 02 says: the
+// record and the next cursor, or a refusal and the same cursor. 9 is the end; the typeinfo cursor also goes on after a refusal 6, 7 or 8.
 use cursors::iterators;
 use records::answer;
 use records::answer::Place;
@@ -22,7 +21,7 @@ ghost use mathlib.Core.Path.{_≡_};
 ghost use Prim.Native.Nat.{_+_, _-_, _≤_, _<_};
 ghost use lib.ListN.{length};
 ghost use Rattle.records.specs.Told.{toldPlace};
-ghost use Rattle.table_cursors.specs.Cursors.{guidStep, importStep, impFileEntry, impFileStep, guidsOf, importsOf, impFilesOf, typeinfosOf, typeinfoStep, textBehind, nameEntryFrom, nameEntry, nameStep, namesIn, namesOf};
+ghost use Rattle.table_cursors.specs.Cursors.{guidStep, importStep, impFileEntry, impFileStep, guidsOf, importsOf, impFilesOf, typeinfosOf, typeinfoStep, entryText, nameEntryFrom, nameEntry, nameStep, namesIn, namesOf};
 ghost use Rattle.typelib.specs.Header.{library, typeCount};
 ghost use Rattle.typelib.specs.Tables.{lent};
 ghost use Rattle.table_cursors.specs.Told.{toldGuids, toldGuidStep, toldImports, toldImportStep, toldImpFiles, toldImpFileStep, toldTypeInfos, toldTypeInfoStep, toldNames, toldNameStep, toldNameEntry};
@@ -322,7 +321,7 @@ fn name_entry(s: &[u8], c: NameCursor) -> NameEntryAnswer
     match iterators::fixed_at(s, pos, c.end, 12) {
         PlaceAnswer::Value(_) => {
             let len = util::u8_or_zero(s, pos + 8) as usize;
-            match answer::text(s, text_behind(s, pos, c.end, len)) {
+            match answer::text(s, entry_text(s, pos, c.end, len)) {
                 PlaceAnswer::Value(text) => NameEntryAnswer::Value(name_entry_from(s, c, text)),
                 PlaceAnswer::Refused(n) => NameEntryAnswer::Refused(n),
             }
@@ -332,9 +331,9 @@ fn name_entry(s: &[u8], c: NameCursor) -> NameEntryAnswer
 }
 
 // Where the text of `len` bytes behind the intro at `pos` lies: the entry ends with it.
-fn text_behind(s: &[u8], pos: usize, end: usize, len: usize) -> PlaceAnswer
+fn entry_text(s: &[u8], pos: usize, end: usize, len: usize) -> PlaceAnswer
     requires { ⌜ len < 256 ⌝ }
-    ensures { λ r. ⌜ toldPlace r ≡ lent (now (s .entry)) (textBehind (now (s .entry)) pos end len) ⌝ }
+    ensures { λ r. ⌜ toldPlace r ≡ lent (now (s .entry)) (entryText (now (s .entry)) pos end len) ⌝ }
 {
     match iterators::fixed_at(s, pos, end, 12 + len) {
         PlaceAnswer::Value(_) => PlaceAnswer::Value(Place { at: pos + 12, len }),

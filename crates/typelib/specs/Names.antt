@@ -27,7 +27,7 @@ nameBehind s lib offset n =
 -- the bytes of a name, in segment 7
 abbrev pub nameBytes : List ℕ → TypeLib → ℕ → Answer Place
 nameBytes s lib offset =
-    bind (tablePlace s lib 7 offset (offsetOf nameIntro "namelen" + 1)) (λ intro.
+    bind (tablePlace s lib 7 offset (sizeOf nameIntro)) (λ intro.
     nameBehind s lib offset (le 1 s (intro .at + offsetOf nameIntro "namelen")))
 
 -- the same, where they are text in UTF-8

@@ -46,6 +46,7 @@ placeIn s table offset size =
 abbrev pub tablePlace : List ℕ → TypeLib → ℕ → ℕ → ℕ → Answer Place
 tablePlace s lib k offset size = lent s (bind (segmentOf lib k) (λ table. placeIn s table offset size))
 
+-- a segment's bytes; a missing one has none, so that nothing lies in it
 abbrev pub tableOf : Answer Place → Place
 tableOf (value p) = p
 tableOf (refused n) = record { at = 0; len = 0 }

@@ -119,7 +119,7 @@ impl TypeLib {
 pub fn name_at(lib: &Numbers, s: &[u8], offset: u32) -> PlaceAnswer
     ensures { λ r. ⌜ toldPlace r ≡ nameBytes (now (s .entry)) (library (now (lib .entry))) offset ⌝ }
 {
-    match tables::table_place(lib, s, NAME_TABLE, offset, 9) {
+    match tables::table_place(lib, s, NAME_TABLE, offset, 12) {
         PlaceAnswer::Value(intro) => {
             let len = util::u8_or_zero(s, intro.at + 8) as usize;
             name_behind(lib, s, offset, len)

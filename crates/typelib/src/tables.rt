@@ -95,8 +95,8 @@ pub fn place_in(s: &[u8], table: Place, offset: u32, size: usize) -> PlaceAnswer
     PlaceAnswer::Refused(9)
 }
 
-// Whether the `size` bytes at `from` of a table end with the table and with the file. Nothing else says where a table ends.
-fn in_table(s: &[u8], table: Place, from: usize, size: usize) -> bool
+// Whether the `size` bytes at `from` of a table end with the table and with the file.
+pub fn in_table(s: &[u8], table: Place, from: usize, size: usize) -> bool
     ensures { λ r. ⌜ r ≡ inTable (now (s .entry)) table (from + size) ⌝ }
 {
     if reaches(table.len, 0, from, size) {

@@ -18,7 +18,7 @@ enum-known-intro : tie.Need-enum-known-intro
 enum-known-intro c = search needs
 
 add-u8-or-zero : tie.Need-add-u8-or-zero
-add-u8-or-zero c = let h = found (c .before .before .before .before .before .before .args .s .now) (library (c .before .before .before .before .before .before .args .lib .now)) 7 (c .before .before .before .before .before .before .args .offset) 9 (c .before .before .intro .given .0 .0) (tells toldPlace (c .before .before .intro .given .1) (c .before .before .before .before .table-place .ensures)) in omega arith
+add-u8-or-zero c = let h = found (c .before .before .before .before .before .before .args .s .now) (library (c .before .before .before .before .before .before .args .lib .now)) 7 (c .before .before .before .before .before .before .args .offset) 12 (c .before .before .intro .given .0 .0) (tells toldPlace (c .before .before .intro .given .1) (c .before .before .before .before .table-place .ensures)) in omega arith
 
 u8-or-zero-requires : tie.Need-u8-or-zero-requires
 u8-or-zero-requires c κs = search needs
@@ -33,7 +33,7 @@ enum-known-n : tie.Need-enum-known-n
 enum-known-n c = search needs
 
 returns : tie.Need-returns
-returns c = bind-value _ _ _ _ (tells toldPlace (c .before .before .before .before .intro .given .1) (c .before .before .before .before .before .before .table-place .ensures)) (c .name-behind .ensures ∙ ap (nameBehind (c .before .before .before .before .before .before .before .before .args .s .now) (library (c .before .before .before .before .before .before .before .before .args .lib .now)) (c .before .before .before .before .before .before .before .before .args .offset)) (read-zero 1 (c .before .before .before .before .before .before .before .before .args .s .now) (c .before .before .before .before .intro .given .0 .0 .at + 8) _ (let h = found (c .before .before .before .before .before .before .before .before .args .s .now) (library (c .before .before .before .before .before .before .before .before .args .lib .now)) 7 (c .before .before .before .before .before .before .before .before .args .offset) 9 (c .before .before .before .before .intro .given .0 .0) (tells toldPlace (c .before .before .before .before .intro .given .1) (c .before .before .before .before .before .before .table-place .ensures)) in omega arith) (c .before .u8-or-zero .ensures)))
+returns c = bind-value _ _ _ _ (tells toldPlace (c .before .before .before .before .intro .given .1) (c .before .before .before .before .before .before .table-place .ensures)) (c .name-behind .ensures ∙ ap (nameBehind (c .before .before .before .before .before .before .before .before .args .s .now) (library (c .before .before .before .before .before .before .before .before .args .lib .now)) (c .before .before .before .before .before .before .before .before .args .offset)) (read-zero 1 (c .before .before .before .before .before .before .before .before .args .s .now) (c .before .before .before .before .intro .given .0 .0 .at + 8) _ (let h = found (c .before .before .before .before .before .before .before .before .args .s .now) (library (c .before .before .before .before .before .before .before .before .args .lib .now)) 7 (c .before .before .before .before .before .before .before .before .args .offset) 12 (c .before .before .before .before .intro .given .0 .0) (tells toldPlace (c .before .before .before .before .intro .given .1) (c .before .before .before .before .before .before .table-place .ensures)) in omega arith) (c .before .u8-or-zero .ensures)))
 
 returns-2 : tie.Need-returns-2
 returns-2 c = bind-refused _ _ _ (tells toldPlace (c .before .n .given .1) (c .before .before .before .table-place .ensures))

@@ -5,8 +5,8 @@ use Rattle.records.specs.AnswerLaws.{tells}
 use native.Mathlib.Omega.{arith}
 use Prim.Native.Nat.{_+_}
 use borrow.Author.Needs.{needs}
-use Rattle.table_cursors.proofs.iterators.text_behind.Statement.{statement}
-use Rattle.table_cursors.proofs.iterators.text_behind.Tie as tie
+use Rattle.table_cursors.proofs.iterators.entry_text.Statement.{statement}
+use Rattle.table_cursors.proofs.iterators.entry_text.Tie as tie
 
 add-fixed-at : tie.Need-add-fixed-at
 add-fixed-at c = search needs
@@ -29,7 +29,7 @@ returns c = behind-value _ _ _ _ _ (tells toldPlace (c .enum-told .given .1) (c 
 returns-2 : tie.Need-returns-2
 returns-2 c = behind-refused _ _ _ _ _ (tells toldPlace (c .before .n .given .1) (c .before .before .before .fixed-at .ensures))
 
-pub text-behind-spec : {M : Type 1} → statement M
-text-behind-spec =
+pub entry-text-spec : {M : Type 1} → statement M
+entry-text-spec =
     tie.close
     (tie.spec add-fixed-at fixed-at-requires enum-told add-t9 enum-known-n returns returns-2)
