@@ -1,9 +1,8 @@
 -- Laws of `Tables`, a case each. Assumes nothing.
-use mathlib.Core.Path.{_≡_, refl, sym, _∙_, ap}
+use mathlib.Core.Path.{_≡_, refl, _∙_, ap}
 use mathlib.Core.Bool.{Bool, true, false, cond, _&&_, false≢true}
 use mathlib.Core.List.{List, [], _∷_}
 use Prim.Native.Nat.{ℕ, _+_, _*_, _/_, _%_, _^_, _≤_, _<_}
-use native.Mathlib.Nat.{zero-add}
 use native.Mathlib.Omega.{arith}
 use lib.Dec.{leb, ltb, eqb}
 use lib.ListN.{length, getD, List·getD-append}
@@ -77,12 +76,11 @@ and-right true b e = e
 and-right false b e = absurd (false≢true e)
 
 module _ (s : List ℕ) (table : Place) (end : ℕ) where
-  -- the segment's end is looked at first, and then the file's
-  pub table-past : leb (0 + end) (table .len) ≡ false → false ≡ inTable s table end
-  table-past h = let k : leb end (table .len) ≡ false = ap (λ (n : ℕ). leb n (table .len)) (sym (zero-add end)) ∙ h in rw k
+  pub table-past : table .len < end → inTable s table end ≡ false
+  table-past h = rw (lt-leb end (table .len) h)
 
-  pub table-file : (r : Bool) → leb (0 + end) (table .len) ≡ true → r ≡ leb (table .at + end) (length s) → r ≡ inTable s table end
-  table-file r h e = let k : leb end (table .len) ≡ true = ap (λ (n : ℕ). leb n (table .len)) (sym (zero-add end)) ∙ h in rw k e
+  pub table-cut : end ≤ table .len → length s < table .at + end → inTable s table end ≡ false
+  table-cut h k = rw (le-leb end (table .len) h, lt-leb (table .at + end) (length s) k)
 
   pub table-there : end ≤ table .len → table .at + end ≤ length s → inTable s table end ≡ true
   table-there h k = rw (le-leb end (table .len) h, le-leb (table .at + end) (length s) k)

@@ -10,7 +10,6 @@ use records::field::LIMIT;
 use util::NEGATIVE;
 ghost use mathlib.Core.Path.{_≡_};
 ghost use Prim.Native.Nat.{_+_, _^_, _<_};
-ghost use lib.Dec.{leb};
 ghost use Rattle.records.specs.Told.{toldPlace};
 ghost use Rattle.typelib.specs.Header.{library, typeCount, tableStart};
 ghost use Rattle.typelib.specs.Tables.{segmentOf, inTable, placeIn, tablePlace, tableOf};
@@ -95,27 +94,21 @@ pub fn place_in(s: &[u8], table: Place, offset: u32, size: usize) -> PlaceAnswer
     PlaceAnswer::Refused(9)
 }
 
-// Whether the `size` bytes at `from` of a table end with the table and with the file.
+// Whether the `size` bytes at `from` of a table end with the table and with the file. No sum is made that could wrap: what ends with the
+// table is not behind it.
 pub fn in_table(s: &[u8], table: Place, from: usize, size: usize) -> bool
     ensures { λ r. ⌜ r ≡ inTable (now (s .entry)) table (from + size) ⌝ }
 {
-    if reaches(table.len, 0, from, size) {
-        return reaches(s.len(), table.at, from, size);
-    }
-    false
-}
-
-// Whether the `size` bytes at `from` behind `at` end by `end`. No sum is made that could wrap.
-fn reaches(end: usize, at: usize, from: usize, size: usize) -> bool
-    ensures { λ r. ⌜ r ≡ leb (at + (from + size)) end ⌝ }
-{
-    if end < at {
+    if table.len < from {
         return false;
     }
-    if end - at < from {
+    if table.len - from < size {
         return false;
     }
-    if end - at - from < size {
+    if s.len() < table.at {
+        return false;
+    }
+    if s.len() - table.at < from + size {
         return false;
     }
     true
