@@ -4,25 +4,25 @@
 #include "outside.h"
 #include "spell.h"
 
+#include <inttypes.h>
 #include <stdio.h>
 
 /* ---- counts ---- */
 
-typedef bool next_member(const library *l, msft_cursor *c, msft_place *record);
+typedef bool next_member(const library *l, msft_cursor *c, record *r);
 
-static size_t count(const library *l, msft_cursor at, next_member *next)
+static uint64_t count(const library *l, msft_cursor at, next_member *next)
 {
-    msft_place record;
-    size_t yielded = 0;
-    while (next(l, &at, &record))
-        yielded++;
-    return yielded;
+    record r;
+    while (next(l, &at, &r))
+        continue;
+    return at.yielded;
 }
 
 static void say_read(const library *l, const sheet *s)
 {
     size_t types = (size_t)msft_typeinfo_count(BYTES(l));
-    size_t functions = 0, variables = 0;
+    uint64_t functions = 0, variables = 0;
     msft_place type;
     for (size_t i = 0; i < types; i++) {
         if (!type_at(l, i, &type))
@@ -30,8 +30,8 @@ static void say_read(const library *l, const sheet *s)
         functions += count(l, functions_of(l, type), next_function);
         variables += count(l, variables_of(l, type), next_variable);
     }
-    printf("%s: read: %zu types, %zu functions, %zu variables; sheet of %zu bytes\n", l->path,
-           types, functions, variables, s->len);
+    printf("%s: read: %zu types, %" PRIu64 " functions, %" PRIu64 " variables; sheet of %zu bytes\n",
+           l->path, types, functions, variables, s->len);
 }
 
 /* ---- the place of a refusal, in the order in which the sheet comes upon them ---- */
@@ -41,37 +41,35 @@ static bool too_deep(const library *l, int64_t field)
     return MOST_LEVELS < levels_of(l, field);
 }
 
-/* Replies the parameter's number from 1, or 0 where none is too deep. */
-static size_t deep_parameter(const library *l, msft_place function)
+/* The first parameter that is too deep, if there is one. */
+static bool deep_parameter(const library *l, msft_place function, record *parameter)
 {
     msft_cursor at = parameters_of(l, function);
-    msft_place record;
-    for (size_t i = 1; next_parameter(l, &at, &record); i++)
-        if (too_deep(l, msft_param_datatype(BYTES(l), MSFT_PLACE(record))))
-            return i;
-    return 0;
+    while (next_parameter(l, &at, parameter))
+        if (too_deep(l, msft_param_datatype(BYTES(l), MSFT_PLACE(parameter->place))))
+            return true;
+    return false;
 }
 
-static void put_member(cell *c, const char *what, size_t index, text name)
+static void put_member(cell *c, const char *what, uint64_t number, text name)
 {
-    put(c, ", %s %zu ", what, index);
+    put(c, ", %s %" PRIu64 " ", what, number);
     put_quoted(c, name);
 }
 
 static bool deep_function(const library *l, msft_place type, cell *where)
 {
     msft_cursor at = functions_of(l, type);
-    msft_place record;
-    for (size_t i = 0; next_function(l, &at, &record); i++) {
-        bool result = too_deep(l, msft_func_datatype(BYTES(l), MSFT_PLACE(record)));
-        size_t parameter = result ? 0 : deep_parameter(l, record);
-        if (!result && parameter == 0)
+    record function, parameter;
+    while (next_function(l, &at, &function)) {
+        bool result = too_deep(l, msft_func_datatype(BYTES(l), MSFT_PLACE(function.place)));
+        if (!result && !deep_parameter(l, function.place, &parameter))
             continue;
-        put_member(where, "function", i, function_name(l, type, i));
+        put_member(where, "function", function.number, function_name(l, type, function.number));
         if (result)
             put(where, ", its result");
         else
-            put(where, ", parameter %zu", parameter - 1);
+            put(where, ", parameter %" PRIu64, parameter.number);
         return true;
     }
     return false;
@@ -80,11 +78,11 @@ static bool deep_function(const library *l, msft_place type, cell *where)
 static bool deep_variable(const library *l, msft_place type, cell *where)
 {
     msft_cursor at = variables_of(l, type);
-    msft_place record;
-    for (size_t i = 0; next_variable(l, &at, &record); i++) {
-        if (!too_deep(l, msft_var_datatype(BYTES(l), MSFT_PLACE(record))))
+    record variable;
+    while (next_variable(l, &at, &variable)) {
+        if (!too_deep(l, msft_var_datatype(BYTES(l), MSFT_PLACE(variable.place))))
             continue;
-        put_member(where, "variable", i, variable_name(l, type, i));
+        put_member(where, "variable", variable.number, variable_name(l, type, variable.number));
         return true;
     }
     return false;
@@ -101,7 +99,7 @@ static bool deep_alias(const library *l, msft_place type, cell *where)
 
 static bool round_chain(const library *l, msft_place type, cell *where)
 {
-    uint8_t out[24];
+    uint8_t out[28];
     if (msft_typeinfo_typekind(BYTES(l), MSFT_PLACE(type)) != 5
         || msft_impl_types(BYTES(l), MSFT_PLACE(type), out, sizeof out) < 0)
         return false;

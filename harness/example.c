@@ -4,7 +4,7 @@
 #include <stdio.h>
 
 #define LIB lib, lib_len
-static uint8_t lib[16777217], out[40];
+static uint8_t lib[16777217], out[56];
 static size_t lib_len;
 
 /* A parameter: its name, and its type as pointers and the name of a base type. */
@@ -25,36 +25,38 @@ static void print_parameter(msft_place param)
     printf("%.*s\n", (int)n, (char *)out);
 }
 
-/* A function: what C needs to call it, and its parameters. */
-static void print_function(msft_place type, size_t index, msft_place func)
+/* A function: its number, what C needs to call it, and its parameters. */
+static void print_function(msft_place type, msft_yield func)
 {
-    printf("memid 0x%08llx, vtable offset 0x%04llx\n",
-           (unsigned long long)msft_func_memid(LIB, MSFT_PLACE(type), index),
-           (unsigned long long)msft_func_vtable_offset(LIB, MSFT_PLACE(func)));
-    if (msft_params(LIB, MSFT_PLACE(func), out, sizeof out) < 0)
+    printf("function %llu: memid 0x%08llx, vtable offset 0x%04llx\n", (unsigned long long)func.number,
+           (unsigned long long)msft_func_memid(LIB, MSFT_PLACE(type), func.number),
+           (unsigned long long)msft_func_vtable_offset(LIB, MSFT_PLACE(func.record)));
+    if (msft_params(LIB, MSFT_PLACE(func.record), out, sizeof out) < 0)
         return;
     msft_cursor at = msft_unpack_cursor(out);
     while (0 < msft_param_step(LIB, MSFT_CURSOR(at), out, sizeof out)) {
-        at = msft_unpack_cursor(out + MSFT_STEP);
-        print_parameter(msft_unpack_place(out));
+        msft_yield param = msft_unpack_yield(out);
+        at = param.next;
+        print_parameter(param.record);
     }
 }
 
-/* The functions of a type that have the name; replies how many. */
+/* The functions of a type that have the name; replies how many. A function's name and memid lie apart
+   from its record: the number that comes with the record finds them. */
 static int find(msft_place type, const char *wanted)
 {
     int found = 0;
-    msft_cursor at = {0, 0, 0};
+    msft_cursor at = {0, 0, 0, 0};
     if (0 < msft_funcs(LIB, MSFT_PLACE(type), out, sizeof out))
         at = msft_unpack_cursor(out);
-    for (size_t i = 0; 0 < msft_func_step(LIB, MSFT_CURSOR(at), out, sizeof out); i++) {
-        msft_place func = msft_unpack_place(out);
-        at = msft_unpack_cursor(out + MSFT_STEP);
-        if (msft_func_name(LIB, MSFT_PLACE(type), i, out, sizeof out) < 0)
+    while (0 < msft_func_step(LIB, MSFT_CURSOR(at), out, sizeof out)) {
+        msft_yield func = msft_unpack_yield(out);
+        at = func.next;
+        if (msft_func_name(LIB, MSFT_PLACE(type), func.number, out, sizeof out) < 0)
             continue;
         msft_place name = msft_unpack_place(out);
         if (name.len == strlen(wanted) && memcmp(lib + name.at, wanted, name.len) == 0) {
-            print_function(type, i, func);
+            print_function(type, func);
             found++;
         }
     }

@@ -170,65 +170,70 @@ text type_name(const library *l, size_t index)
     return name_at(l, msft_typeinfo_name_offset(BYTES(l), MSFT_PLACE(type)));
 }
 
-text function_name(const library *l, msft_place type, size_t index)
+text function_name(const library *l, msft_place type, uint64_t number)
 {
-    return name_at(l, msft_func_name_offset(BYTES(l), MSFT_PLACE(type), index));
+    return name_at(l, msft_func_name_offset(BYTES(l), MSFT_PLACE(type), number));
 }
 
-text variable_name(const library *l, msft_place type, size_t index)
+text variable_name(const library *l, msft_place type, uint64_t number)
 {
-    return name_at(l, msft_var_name_offset(BYTES(l), MSFT_PLACE(type), index));
+    return name_at(l, msft_var_name_offset(BYTES(l), MSFT_PLACE(type), number));
 }
 
 /* ---- cursors ---- */
 
+/* How many bytes a cursor of members or parameters has, and what a step from it writes. */
+enum { CURSOR = 32, YIELD = 56 };
+
 static msft_cursor cursor_from(int64_t reply, const uint8_t *out)
 {
-    msft_cursor none = {0, 0, 0};
+    msft_cursor none = {0, 0, 0, 0};
     return reply < 0 ? none : msft_unpack_cursor(out);
 }
 
 msft_cursor functions_of(const library *l, msft_place type)
 {
-    uint8_t out[24];
+    uint8_t out[CURSOR];
     return cursor_from(msft_funcs(BYTES(l), MSFT_PLACE(type), out, sizeof out), out);
 }
 
 msft_cursor variables_of(const library *l, msft_place type)
 {
-    uint8_t out[24];
+    uint8_t out[CURSOR];
     return cursor_from(msft_vars(BYTES(l), MSFT_PLACE(type), out, sizeof out), out);
 }
 
 msft_cursor parameters_of(const library *l, msft_place function)
 {
-    uint8_t out[24];
+    uint8_t out[CURSOR];
     return cursor_from(msft_params(BYTES(l), MSFT_PLACE(function), out, sizeof out), out);
 }
 
-static bool stepped(int64_t reply, const uint8_t *out, msft_cursor *c, msft_place *record)
+static bool stepped(int64_t reply, const uint8_t *out, msft_cursor *c, record *r)
 {
     if (reply < 0)
         return false;
-    *record = msft_unpack_place(out);
-    *c = msft_unpack_cursor(out + MSFT_STEP);
+    msft_yield y = msft_unpack_yield(out);
+    r->place = y.record;
+    r->number = y.number;
+    *c = y.next;
     return true;
 }
 
-bool next_function(const library *l, msft_cursor *c, msft_place *record)
+bool next_function(const library *l, msft_cursor *c, record *r)
 {
-    uint8_t out[40];
-    return stepped(msft_func_step(BYTES(l), MSFT_CURSOR(*c), out, sizeof out), out, c, record);
+    uint8_t out[YIELD];
+    return stepped(msft_func_step(BYTES(l), MSFT_CURSOR(*c), out, sizeof out), out, c, r);
 }
 
-bool next_variable(const library *l, msft_cursor *c, msft_place *record)
+bool next_variable(const library *l, msft_cursor *c, record *r)
 {
-    uint8_t out[40];
-    return stepped(msft_var_step(BYTES(l), MSFT_CURSOR(*c), out, sizeof out), out, c, record);
+    uint8_t out[YIELD];
+    return stepped(msft_var_step(BYTES(l), MSFT_CURSOR(*c), out, sizeof out), out, c, r);
 }
 
-bool next_parameter(const library *l, msft_cursor *c, msft_place *record)
+bool next_parameter(const library *l, msft_cursor *c, record *r)
 {
-    uint8_t out[40];
-    return stepped(msft_param_step(BYTES(l), MSFT_CURSOR(*c), out, sizeof out), out, c, record);
+    uint8_t out[YIELD];
+    return stepped(msft_param_step(BYTES(l), MSFT_CURSOR(*c), out, sizeof out), out, c, r);
 }

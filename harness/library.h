@@ -55,16 +55,24 @@ text text_at(const library *l, int64_t reply, const uint8_t *out);
 text name_at(const library *l, int64_t offset);
 bool type_at(const library *l, size_t index, msft_place *type);
 text type_name(const library *l, size_t index);
-text function_name(const library *l, msft_place type, size_t index);
-text variable_name(const library *l, msft_place type, size_t index);
+text function_name(const library *l, msft_place type, uint64_t number);
+text variable_name(const library *l, msft_place type, uint64_t number);
+
+/* A function, a variable or a parameter with the number that its step gave it, from 0: the words of a
+   member, which lie apart from its record, are found by that number. */
+typedef struct record {
+    msft_place place;
+    uint64_t number;
+} record;
 
 /* Cursors. The first call sets one up, at its end where there is none; each further call takes a
-   record, or says that there is no more. */
+   record, or says that there is no more and leaves the cursor as it is: its `yielded` is then how many
+   there were. */
 msft_cursor functions_of(const library *l, msft_place type);
 msft_cursor variables_of(const library *l, msft_place type);
 msft_cursor parameters_of(const library *l, msft_place function);
-bool next_function(const library *l, msft_cursor *c, msft_place *record);
-bool next_variable(const library *l, msft_cursor *c, msft_place *record);
-bool next_parameter(const library *l, msft_cursor *c, msft_place *record);
+bool next_function(const library *l, msft_cursor *c, record *r);
+bool next_variable(const library *l, msft_cursor *c, record *r);
+bool next_parameter(const library *l, msft_cursor *c, record *r);
 
 #endif

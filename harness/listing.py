@@ -2,7 +2,8 @@
 """Prints from a raw sheet what `tlb members` must list of its library: listing.py SHEET.
 
 The tool reads the library's records; this reads the sheet, which is proved to be the library's
-description, by document 01's layout. The tests hold the two against each other. The library's help
+description, by document 01's layout. The tests hold the two against each other. The sheet has no
+numbers: a function's or a variable's is its place in the sheet's list, from 0. The library's help
 string is in no sheet, and `extends` is left out where the reference is nothing."""
 import math
 import struct
@@ -17,6 +18,7 @@ INVOKE = {1: 'func', 2: 'propget', 4: 'propput', 8: 'propputref'}
 VARIABLE = {0: 'field', 1: 'static', 2: 'const', 3: 'property'}
 PARAMETER = [(1, 'in'), (2, 'out'), (4, 'lcid'), (8, 'retval'), (16, 'optional')]
 IMPLEMENTED = [(1, 'default'), (2, 'source'), (4, 'restricted'), (8, 'defaultvtable')]
+HEADS = '    number  memid       offset  kind        member'
 SIGNED = {2: 2, 3: 4, 16: 1, 20: 8, 22: 4}
 UNSIGNED = {17: 1, 18: 2, 19: 4, 21: 8, 23: 4}
 
@@ -150,9 +152,9 @@ def brackets(flags, table):
     return '[%s] ' % ', '.join(found) if found else ''
 
 
-def row(memid, offset, kind, rest):
-    return '    %-10s  %-6s  %-10s  %s' % ('-' if memid is None else '0x%08x' % memid,
-                                            '-' if offset is None else '0x%04x' % offset, kind, rest)
+def row(number, memid, offset, kind, rest):
+    return '    %6d  %-10s  %-6s  %-10s  %s' % (number, '-' if memid is None else '0x%08x' % memid,
+                                                '-' if offset is None else '0x%04x' % offset, kind, rest)
 
 
 def parameter(r):
@@ -161,23 +163,23 @@ def parameter(r):
     return lambda names: brackets(flags & ~0x20, PARAMETER) + tree(names) + ' ' + named(name) + value
 
 
-def function(r):
+def function(r, number):
     memid, name, tree = r.opt(lambda: r.number(4)), r.opt(r.name), r.tree()
     r.number(4)
     offset, kind = r.number(2), INVOKE.get(r.number(4) >> 3 & 15, 'unknown')
     r.take(4)
     parameters = [parameter(r) for _ in range(r.number(2))]
-    return lambda names: row(memid, offset, kind, '%s %s(%s)' % (
+    return lambda names: row(number, memid, offset, kind, '%s %s(%s)' % (
         tree(names), named(name), ', '.join(p(names) for p in parameters)))
 
 
-def variable(r):
+def variable(r, number):
     memid, name, tree = r.opt(lambda: r.number(4)), r.opt(r.name), r.tree()
     r.number(4)
     kind = r.number(2)
     value = r.opt(r.constant) if kind == 2 else r.number(4)
     rest = ' = ' + (value or '(nothing)') if kind == 2 else ''
-    return lambda names: row(memid, None if kind == 2 else value, VARIABLE.get(kind, 'unknown'),
+    return lambda names: row(number, memid, None if kind == 2 else value, VARIABLE.get(kind, 'unknown'),
                              tree(names) + ' ' + named(name) + rest)
 
 
@@ -195,7 +197,7 @@ def base(r, kind):
 
 
 def members(r, what, declared, read):
-    found = [read(r) for _ in range(r.number(2))]
+    found = [read(r, number) for number in range(r.number(2))]
     short = ['    (declares %d %s, found %d)' % (declared, what, len(found))] if declared != len(found) else []
     return found, short
 
@@ -210,12 +212,11 @@ def type_body(r, index):
 
     def lines(names):
         word = KINDS[kind] if kind < 8 else 'UNKNOWN(%d)' % kind
-        heads = [row(None, None, 'kind', 'member').replace('-     ', 'memid ', 1).replace('-     ', 'offset', 1)]
         out = ['', '[%d] %s %s%s' % (index, word, named(name), ' ' + guid if guid else ''),
                '    flags 0x%08x, %s' % (flags, versions(version))] + rests(names)
-        out += heads if functions else []
+        out += [HEADS] if functions else []
         out += [f(names) for f in functions] + few
-        out += heads if variables and not functions else []
+        out += [HEADS] if variables and not functions else []
         return out + [v(names) for v in variables] + fewer
     return name, lines
 

@@ -22,19 +22,19 @@ static void variable(void)
     say("no room", msft_var_from_raw(var, VAR_SIZE, 0, VAR_SIZE, out, sizeof out - 1));
     say("a byte short", msft_var_from_raw(var, VAR_SIZE - 1, 0, VAR_SIZE - 1, out, sizeof out));
     say("past the end", msft_var_from_raw(var, VAR_SIZE, 1, VAR_SIZE, out, sizeof out));
-    say("a step", msft_var_step(var, VAR_SIZE, 0, VAR_SIZE, 1, out, sizeof out));
+    say("a step", msft_var_step(var, VAR_SIZE, 0, VAR_SIZE, 1, 0, out, sizeof out));
     say("no bytes", msft_var_flags(var, 0, 0, VAR_SIZE));
 }
 
 /* Two parameters, stepped to their end. */
 static void parameters(void)
 {
-    uint8_t params[2 * PARAM_SIZE] = {0}, out[40];
-    msft_cursor c = {0, sizeof params, 2};
+    uint8_t params[2 * PARAM_SIZE] = {0}, out[56];
+    msft_cursor c = {0, sizeof params, 2, 0};
     int64_t reply;
     while ((reply = msft_param_step(params, sizeof params, MSFT_CURSOR(c), out, sizeof out)) > 0) {
         say("a parameter", reply);
-        c = msft_unpack_cursor(out + MSFT_STEP);
+        c = msft_unpack_yield(out).next;
     }
     say("behind them", reply);
 }
@@ -43,26 +43,27 @@ static void parameters(void)
 static void chain(void)
 {
     uint8_t ref[REF_SIZE] = {0}, out[8];
-    say("a circle", msft_walk(ref, REF_SIZE, 0, REF_SIZE, 0, out, sizeof out));
+    say("a circle", msft_walk(ref, REF_SIZE, 0, REF_SIZE, 0, 0, out, sizeof out));
     ref[12] = 0xff;
     ref[13] = 0xff;
     ref[14] = 0xff;
     ref[15] = 0xff;
-    say("a chain", msft_walk(ref, REF_SIZE, 0, REF_SIZE, 0, out, sizeof out));
+    say("a chain", msft_walk(ref, REF_SIZE, 0, REF_SIZE, 0, 0, out, sizeof out));
     say("its records", (int64_t)msft_unpack_size(out));
-    say("past its table", msft_walk(ref, REF_SIZE, 0, REF_SIZE - 1, 0, out, sizeof out));
+    say("past its table", msft_walk(ref, REF_SIZE, 0, REF_SIZE - 1, 0, 0, out, sizeof out));
     say("its records", (int64_t)msft_unpack_size(out));
-    say("a record past it", msft_impl_type_step(ref, REF_SIZE, 0, REF_SIZE - 1, 0, out, sizeof out));
+    say("a record past it",
+        msft_impl_type_step(ref, REF_SIZE, 0, REF_SIZE - 1, 0, 0, out, sizeof out));
 }
 
 /* A name of four bytes behind its intro; its cursor ends with it or a byte before. */
 static void name(void)
 {
-    uint8_t entry[NAME_SIZE] = {0}, out[59];
+    uint8_t entry[NAME_SIZE] = {0}, out[75];
     entry[8] = 4;
-    say("a name", msft_name_step(entry, NAME_SIZE, 0, NAME_SIZE, 0, out, sizeof out));
-    say("past its cursor", msft_name_step(entry, NAME_SIZE, 0, NAME_SIZE - 1, 0, out, sizeof out));
-    say("past the bytes", msft_name_step(entry, NAME_SIZE - 1, 0, NAME_SIZE, 0, out, sizeof out));
+    say("a name", msft_name_step(entry, NAME_SIZE, 0, NAME_SIZE, 0, 0, out, sizeof out));
+    say("past its cursor", msft_name_step(entry, NAME_SIZE, 0, NAME_SIZE - 1, 0, 0, out, sizeof out));
+    say("past the bytes", msft_name_step(entry, NAME_SIZE - 1, 0, NAME_SIZE, 0, 0, out, sizeof out));
 }
 
 /* What parses refuses such bytes, and over-long bytes are refused by all. */

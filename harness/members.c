@@ -2,6 +2,7 @@
 #include "commands.h"
 #include "spell.h"
 
+#include <inttypes.h>
 #include <stdio.h>
 
 /* ---- words for codes ---- */
@@ -73,13 +74,19 @@ static void put_title(cell *c, const library *l, text name, int64_t guid)
         put(c, " %s", id.text);
 }
 
+/* A member's number, as its step gave it. */
+static void print_number(uint64_t number)
+{
+    printf("    %6" PRIu64, number);
+}
+
 /* A member's identifier, as the record has it. */
 static void print_memid(int64_t memid)
 {
     if (memid < 0)
-        printf("    %-10s", "-");
+        printf("  %-10s", "-");
     else
-        printf("    0x%08lx", (unsigned long)memid);
+        printf("  0x%08lx", (unsigned long)memid);
 }
 
 /* A number that is hex by nature, such as an offset. */
@@ -94,96 +101,96 @@ static void print_offset(int64_t offset)
 static void print_heads(bool *printed)
 {
     if (!*printed)
-        printf("    %-10s  %-6s  %-10s  %s\n", "memid", "offset", "kind", "member");
+        printf("    %6s  %-10s  %-6s  %-10s  %s\n", "number", "memid", "offset", "kind", "member");
     *printed = true;
 }
 
 /* ---- functions ---- */
 
-static void put_default(cell *c, const library *l, msft_place function, size_t index)
+static void put_default(cell *c, const library *l, msft_place function, uint64_t number)
 {
-    int64_t word = msft_func_default_value_offset(BYTES(l), MSFT_PLACE(function), index);
+    int64_t word = msft_func_default_value_offset(BYTES(l), MSFT_PLACE(function), number);
     put(c, " = ");
     put_constant(c, l, word);
 }
 
 /* A parameter: its flags in words, its type, its name, and the default value. */
-static void put_parameter(cell *c, const library *l, msft_place function, msft_place parameter,
-                          size_t index)
+static void put_parameter(cell *c, const library *l, msft_place function, record parameter)
 {
     static const bit words[] = {{0x01, "in"}, {0x02, "out"}, {0x04, "lcid"}, {0x08, "retval"},
                                 {0x10, "optional"}};
-    int64_t flags = msft_param_flags(BYTES(l), MSFT_PLACE(parameter));
+    int64_t flags = msft_param_flags(BYTES(l), MSFT_PLACE(parameter.place));
     uint32_t bits = flags < 0 ? 0 : (uint32_t)flags;
     put_bits(c, bits & ~UINT32_C(0x20), words, sizeof words / sizeof *words);
-    put_type(c, l, msft_param_datatype(BYTES(l), MSFT_PLACE(parameter)));
+    put_type(c, l, msft_param_datatype(BYTES(l), MSFT_PLACE(parameter.place)));
     put(c, " ");
-    put_name(c, name_at(l, msft_param_name_offset(BYTES(l), MSFT_PLACE(parameter))));
+    put_name(c, name_at(l, msft_param_name_offset(BYTES(l), MSFT_PLACE(parameter.place))));
     if ((bits & 0x20) != 0)
-        put_default(c, l, function, index);
+        put_default(c, l, function, parameter.number);
 }
 
 static void print_parameters(const library *l, msft_place function)
 {
     msft_cursor at = parameters_of(l, function);
-    msft_place parameter;
+    record parameter;
     cell c;
     putchar('(');
-    for (size_t i = 0; next_parameter(l, &at, &parameter); i++) {
+    while (next_parameter(l, &at, &parameter)) {
         clear(&c);
-        put_parameter(&c, l, function, parameter, i);
-        printf("%s%s", i == 0 ? "" : ", ", c.text);
+        put_parameter(&c, l, function, parameter);
+        printf("%s%s", parameter.number == 0 ? "" : ", ", c.text);
     }
     puts(")");
 }
 
-static void print_function(const library *l, msft_place type, msft_place function, size_t index)
+static void print_function(const library *l, msft_place type, record function)
 {
     cell c;
-    print_memid(msft_func_memid(BYTES(l), MSFT_PLACE(type), index));
-    print_offset(msft_func_vtable_offset(BYTES(l), MSFT_PLACE(function)));
-    printf("  %-10s  ", invoke_word(msft_func_invoke_kind(BYTES(l), MSFT_PLACE(function))));
+    print_number(function.number);
+    print_memid(msft_func_memid(BYTES(l), MSFT_PLACE(type), function.number));
+    print_offset(msft_func_vtable_offset(BYTES(l), MSFT_PLACE(function.place)));
+    printf("  %-10s  ", invoke_word(msft_func_invoke_kind(BYTES(l), MSFT_PLACE(function.place))));
     clear(&c);
-    put_type(&c, l, msft_func_datatype(BYTES(l), MSFT_PLACE(function)));
+    put_type(&c, l, msft_func_datatype(BYTES(l), MSFT_PLACE(function.place)));
     put(&c, " ");
-    put_name(&c, function_name(l, type, index));
+    put_name(&c, function_name(l, type, function.number));
     fputs(c.text, stdout);
-    print_parameters(l, function);
+    print_parameters(l, function.place);
 }
 
 /* Says where a type declares another number of members than were found. */
-static void print_missing(const char *what, int64_t declared, size_t found)
+static void print_missing(const char *what, int64_t declared, uint64_t found)
 {
     if (declared != (int64_t)found)
-        printf("    (declares %ld %s, found %zu)\n", (long)declared, what, found);
+        printf("    (declares %ld %s, found %" PRIu64 ")\n", (long)declared, what, found);
 }
 
 static void print_functions(const library *l, msft_place type, bool *heads)
 {
     msft_cursor at = functions_of(l, type);
-    msft_place function;
-    size_t found = 0;
-    for (; next_function(l, &at, &function); found++) {
+    record function;
+    while (next_function(l, &at, &function)) {
         print_heads(heads);
-        print_function(l, type, function, found);
+        print_function(l, type, function);
     }
-    print_missing("functions", msft_typeinfo_func_count(BYTES(l), MSFT_PLACE(type)), found);
+    print_missing("functions", msft_typeinfo_func_count(BYTES(l), MSFT_PLACE(type)), at.yielded);
 }
 
 /* ---- variables ---- */
 
-static void print_variable(const library *l, msft_place type, msft_place variable, size_t index)
+static void print_variable(const library *l, msft_place type, record variable)
 {
-    int64_t kind = msft_var_varkind(BYTES(l), MSFT_PLACE(variable));
-    int64_t word = msft_var_offs_value(BYTES(l), MSFT_PLACE(variable));
+    int64_t kind = msft_var_varkind(BYTES(l), MSFT_PLACE(variable.place));
+    int64_t word = msft_var_offs_value(BYTES(l), MSFT_PLACE(variable.place));
     cell c;
-    print_memid(msft_var_memid(BYTES(l), MSFT_PLACE(type), index));
+    print_number(variable.number);
+    print_memid(msft_var_memid(BYTES(l), MSFT_PLACE(type), variable.number));
     print_offset(kind == 2 ? -MSFT_NOTHING_THERE : word);
     printf("  %-10s  ", variable_word(kind));
     clear(&c);
-    put_type(&c, l, msft_var_datatype(BYTES(l), MSFT_PLACE(variable)));
+    put_type(&c, l, msft_var_datatype(BYTES(l), MSFT_PLACE(variable.place)));
     put(&c, " ");
-    put_name(&c, variable_name(l, type, index));
+    put_name(&c, variable_name(l, type, variable.number));
     if (kind == 2) {
         put(&c, " = ");
         put_constant(&c, l, word);
@@ -194,43 +201,44 @@ static void print_variable(const library *l, msft_place type, msft_place variabl
 static void print_variables(const library *l, msft_place type, bool *heads)
 {
     msft_cursor at = variables_of(l, type);
-    msft_place variable;
-    size_t found = 0;
-    for (; next_variable(l, &at, &variable); found++) {
+    record variable;
+    while (next_variable(l, &at, &variable)) {
         print_heads(heads);
-        print_variable(l, type, variable, found);
+        print_variable(l, type, variable);
     }
-    print_missing("variables", msft_typeinfo_var_count(BYTES(l), MSFT_PLACE(type)), found);
+    print_missing("variables", msft_typeinfo_var_count(BYTES(l), MSFT_PLACE(type)), at.yielded);
 }
 
 /* ---- what a type rests on ---- */
 
-static void print_implemented(const library *l, msft_place record)
+static void print_implemented(const library *l, msft_place reference)
 {
     static const bit words[] = {{0x1, "default"}, {0x2, "source"}, {0x4, "restricted"},
                                 {0x8, "defaultvtable"}};
-    int64_t flags = msft_ref_flags(BYTES(l), MSFT_PLACE(record));
+    int64_t flags = msft_ref_flags(BYTES(l), MSFT_PLACE(reference));
     cell c;
     clear(&c);
     put_bits(&c, flags < 0 ? 0 : (uint32_t)flags, words, sizeof words / sizeof *words);
-    put_reference(&c, l, msft_ref_reftype(BYTES(l), MSFT_PLACE(record)));
+    put_reference(&c, l, msft_ref_reftype(BYTES(l), MSFT_PLACE(reference)));
     printf("    implements %s\n", c.text);
 }
 
 /* The interfaces of a coclass: as many as the walk along their chain took. */
 static void print_chain(const library *l, msft_place type)
 {
-    uint8_t out[40];
+    uint8_t out[52];
     if (msft_impl_types(BYTES(l), MSFT_PLACE(type), out, sizeof out) < 0)
         return;
     msft_chain_cursor at = msft_unpack_chain_cursor(out);
     if (msft_walk(BYTES(l), MSFT_CHAIN_CURSOR(at), out, sizeof out) < 0)
         return;
-    for (size_t left = msft_unpack_size(out); 0 < left; left--) {
+    size_t count = msft_unpack_size(out);
+    while (at.yielded < count) {
         if (msft_impl_type_step(BYTES(l), MSFT_CHAIN_CURSOR(at), out, sizeof out) < 0)
             return;
-        print_implemented(l, msft_unpack_place(out));
-        at = msft_unpack_chain_cursor(out + MSFT_STEP);
+        msft_chain_yield y = msft_unpack_chain_yield(out);
+        print_implemented(l, y.record);
+        at = y.next;
     }
 }
 

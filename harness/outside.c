@@ -1,6 +1,7 @@
 #include "outside.h"
 #include "spell.h"
 
+#include <inttypes.h>
 #include <stdio.h>
 
 /* A field that is not negative names an entry of a table by its offset. It leads out of the table where
@@ -9,7 +10,7 @@ typedef int64_t reading(const uint8_t *lib, size_t lib_len, int32_t offset, uint
                         size_t out_len);
 
 /* The most bytes that one of these readings, or a step along a chain, writes. */
-enum { MOST_OUT = 40 };
+enum { MOST_OUT = 52 };
 
 /* A hostile library can lead out of its tables millions of times: so many are told. */
 enum { MOST_TOLD = 100 };
@@ -71,14 +72,14 @@ static void look_at_constant(search *s, const char *what, int64_t field)
         look(s, "", what, field, msft_const_value, "not inside the table of constants and the file");
 }
 
-/* Goes on to a type, a member or a parameter, and looks at its name. Replies where the words for what
-   it is part of end; `leave` cuts there. */
-static size_t enter(search *s, const char *what, size_t index, int64_t name)
+/* Goes on to a type, a member, a parameter or an interface, and looks at its name, which a refusal says
+   that it has not. Replies where the words for what it is part of end; `leave` cuts there. */
+static size_t enter(search *s, const char *what, uint64_t number, int64_t name)
 {
     size_t before = s->where.len;
     if (s->says) {
         text words = name_at(s->l, name);
-        put(&s->where, "%s %zu", what, index);
+        put(&s->where, "%s %" PRIu64, what, number);
         if (words.bytes != NULL) {
             put(&s->where, " ");
             put_quoted(&s->where, words);
@@ -158,14 +159,14 @@ static void look_at_parameters(search *s, msft_place function)
 {
     const library *l = s->l;
     msft_cursor at = parameters_of(l, function);
-    msft_place record;
-    for (size_t i = 0; next_parameter(l, &at, &record); i++) {
-        size_t before = enter(s, ", parameter", i,
-                              msft_param_name_offset(BYTES(l), MSFT_PLACE(record)));
-        look_at_type(s, "its type", msft_param_datatype(BYTES(l), MSFT_PLACE(record)));
-        if ((msft_param_flags(BYTES(l), MSFT_PLACE(record)) & 0x20) != 0)
+    record p;
+    while (next_parameter(l, &at, &p)) {
+        size_t before = enter(s, ", parameter", p.number,
+                              msft_param_name_offset(BYTES(l), MSFT_PLACE(p.place)));
+        look_at_type(s, "its type", msft_param_datatype(BYTES(l), MSFT_PLACE(p.place)));
+        if ((msft_param_flags(BYTES(l), MSFT_PLACE(p.place)) & 0x20) != 0)
             look_at_constant(s, "its default value",
-                             msft_func_default_value_offset(BYTES(l), MSFT_PLACE(function), i));
+                             msft_func_default_value_offset(BYTES(l), MSFT_PLACE(function), p.number));
         leave(s, before);
     }
 }
@@ -174,12 +175,12 @@ static void look_at_functions(search *s, msft_place type)
 {
     const library *l = s->l;
     msft_cursor at = functions_of(l, type);
-    msft_place record;
-    for (size_t i = 0; next_function(l, &at, &record); i++) {
-        size_t before = enter(s, ", function", i,
-                              msft_func_name_offset(BYTES(l), MSFT_PLACE(type), i));
-        look_at_type(s, "its result", msft_func_datatype(BYTES(l), MSFT_PLACE(record)));
-        look_at_parameters(s, record);
+    record f;
+    while (next_function(l, &at, &f)) {
+        size_t before = enter(s, ", function", f.number,
+                              msft_func_name_offset(BYTES(l), MSFT_PLACE(type), f.number));
+        look_at_type(s, "its result", msft_func_datatype(BYTES(l), MSFT_PLACE(f.place)));
+        look_at_parameters(s, f.place);
         leave(s, before);
     }
 }
@@ -188,15 +189,20 @@ static void look_at_variables(search *s, msft_place type)
 {
     const library *l = s->l;
     msft_cursor at = variables_of(l, type);
-    msft_place record;
-    for (size_t i = 0; next_variable(l, &at, &record); i++) {
-        size_t before = enter(s, ", variable", i,
-                              msft_var_name_offset(BYTES(l), MSFT_PLACE(type), i));
-        look_at_type(s, "its type", msft_var_datatype(BYTES(l), MSFT_PLACE(record)));
-        if (msft_var_varkind(BYTES(l), MSFT_PLACE(record)) == 2)
-            look_at_constant(s, "its value", msft_var_offs_value(BYTES(l), MSFT_PLACE(record)));
+    record v;
+    while (next_variable(l, &at, &v)) {
+        size_t before = enter(s, ", variable", v.number,
+                              msft_var_name_offset(BYTES(l), MSFT_PLACE(type), v.number));
+        look_at_type(s, "its type", msft_var_datatype(BYTES(l), MSFT_PLACE(v.place)));
+        if (msft_var_varkind(BYTES(l), MSFT_PLACE(v.place)) == 2)
+            look_at_constant(s, "its value", msft_var_offs_value(BYTES(l), MSFT_PLACE(v.place)));
         leave(s, before);
     }
+}
+
+static size_t enter_interface(search *s, uint64_t number)
+{
+    return enter(s, ", interface", number, -MSFT_NOTHING_THERE);
 }
 
 /* The interfaces of a coclass, and the offset behind the last. */
@@ -204,17 +210,22 @@ static void look_at_chain(search *s, msft_place type)
 {
     const library *l = s->l;
     uint8_t out[MOST_OUT];
+    size_t before;
     if (msft_impl_types(BYTES(l), MSFT_PLACE(type), out, sizeof out) < 0)
         return;
     msft_chain_cursor at = msft_unpack_chain_cursor(out);
     while (0 <= msft_impl_type_step(BYTES(l), MSFT_CHAIN_CURSOR(at), out, sizeof out)) {
-        msft_place record = msft_unpack_place(out);
-        look_at_reference(s, "an interface that it implements",
-                          msft_ref_reftype(BYTES(l), MSFT_PLACE(record)));
-        at = msft_unpack_chain_cursor(out + MSFT_STEP);
+        msft_chain_yield y = msft_unpack_chain_yield(out);
+        before = enter_interface(s, y.number);
+        look_at_reference(s, "its type", msft_ref_reftype(BYTES(l), MSFT_PLACE(y.record)));
+        leave(s, before);
+        at = y.next;
     }
-    if (names_something(at.next))
-        found(s, "", "a record of its references", at.next, "not inside the table of references and the file");
+    if (!names_something(at.next))
+        return;
+    before = enter_interface(s, at.yielded);
+    found(s, "", "its record", at.next, "not inside the table of references and the file");
+    leave(s, before);
 }
 
 static void look_at_base(search *s, msft_place type)

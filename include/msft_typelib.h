@@ -11,8 +11,8 @@
    A reading of one number of at most 32 bits replies that number: an i32 and an i16 by their bits
    (msft_i32 and msft_i16 give the signed number), a truth as 0 or 1. Any other writes its values to
    the front of `out`, little-endian, at their own widths, and replies how many bytes it wrote; a
-   place, a length, an index and a cursor's numbers have eight bytes each. The functions
-   msft_unpack_.. read them back.
+   place, a length, an index and a cursor's numbers have eight bytes each, but for a chain cursor's
+   `next`, which has four. The functions msft_unpack_.. read them back.
 
    Calls that need the library's header, its table of offsets or a segment begin with `parse`, and
    reply -1 to -5 where the bytes are no library. The others read only the lent bytes, if they take any;
@@ -666,97 +666,121 @@ int64_t msft_const_value(
     const uint8_t *lib, size_t lib_len, int32_t word, uint8_t *out, size_t out_len);
 
 /* ---- iterators: cursors, and the walk along a chain ---- */
-/* The function records of a typeinfo. Writes a cursor (24 bytes); -1, -9, -12. */
+
+/* A cursor goes over records in their order. One call sets it up, at the first record; a step takes it
+   and writes the record that it stands at, the record's number and the next cursor, all three or none.
+
+   The number of a record is the count of records before it, so that the first has 0. A cursor carries
+   that count, `yielded`, as its last number; nothing else that a step writes depends on it. It stops at
+   2^64 - 1: every record from there on has that number, as on a reference chain that comes round.
+
+   The cursor of typeinfos is an index alone, which is the number: entries that are refused are counted.
+   The number of a function, a variable, a parameter or a typeinfo is the `index` (or `arg_index`) by
+   which the other calls know it, as msft_func_memid, msft_var_name, msft_func_default_value_offset and
+   msft_typeinfo do.
+
+   Of functions, variables and parameters, `yielded` and `remaining` together are the `remaining` that
+   the cursor began with, where it came from msft_funcs, msft_vars or msft_params and was only stepped.
+
+   At its end a step replies -9. The cursor stays as it is, its count too: like every call that refuses,
+   the step writes nothing. */
+
+/* The function records of a typeinfo. Writes a cursor (32 bytes); -1, -9, -12. */
 int64_t msft_funcs(
     const uint8_t *lib, size_t lib_len, size_t at, size_t len, uint8_t *out, size_t out_len);
 
-/* The variable records of a typeinfo, behind its function records. Writes a cursor (24 bytes);
+/* The variable records of a typeinfo, behind its function records. Writes a cursor (32 bytes);
    -1, -9, -12. */
 int64_t msft_vars(
     const uint8_t *lib, size_t lib_len, size_t at, size_t len, uint8_t *out, size_t out_len);
 
-/* The parameters of a function, at the end of its record. Writes a cursor (24 bytes); -1, -9,
+/* The parameters of a function, at the end of its record. Writes a cursor (32 bytes); -1, -9,
    -12. */
 int64_t msft_params(
     const uint8_t *lib, size_t lib_len, size_t at, size_t len, uint8_t *out, size_t out_len);
 
-/* The entries of the GUID table, to the end of segment 5. Writes a cursor (16 bytes); -1 to -5,
-   -12. */
+/* The entries of the GUID table, to the end of segment 5. Writes a table cursor (24 bytes); -1
+   to -5, -12. */
 int64_t msft_guids(const uint8_t *lib, size_t lib_len, uint8_t *out, size_t out_len);
 
-/* The import records, to the end of segment 1. Writes a cursor (16 bytes); -1 to -5, -12. */
+/* The import records, to the end of segment 1. Writes a table cursor (24 bytes); -1 to -5, -12. */
 int64_t msft_imports(const uint8_t *lib, size_t lib_len, uint8_t *out, size_t out_len);
 
-/* The import files, to the end of segment 2. Writes a cursor (16 bytes); -1 to -5, -12. */
+/* The import files, to the end of segment 2. Writes a table cursor (24 bytes); -1 to -5, -12. */
 int64_t msft_imp_files(const uint8_t *lib, size_t lib_len, uint8_t *out, size_t out_len);
 
-/* The entries of the name table, to the end of segment 7. Writes a cursor (24 bytes); -1 to -5,
-   -12. */
+/* The entries of the name table, to the end of segment 7. Writes a name cursor (32 bytes); -1 to
+   -5, -12. */
 int64_t msft_names(const uint8_t *lib, size_t lib_len, uint8_t *out, size_t out_len);
 
 /* The cursor over the types that a typeinfo implements, at the first. Its table is segment 3, or
-   has no bytes where that is missing. Writes a chain cursor (20 bytes); -1 to -5, -9, -12. */
+   has no bytes where that is missing. Writes a chain cursor (28 bytes); -1 to -5, -9, -12. */
 int64_t msft_impl_types(
     const uint8_t *lib, size_t lib_len, size_t at, size_t len, uint8_t *out, size_t out_len);
 
-/* The function record at the cursor, and the next cursor. Writes a place and a cursor (40
-   bytes); -1, -9, -12. */
+/* The function record at the cursor, its number, and the next cursor. Writes a place, a u64 and
+   a cursor (56 bytes); -1, -9, -12. */
 int64_t msft_func_step(
-    const uint8_t *lib, size_t lib_len, size_t pos, size_t end, size_t remaining, uint8_t *out,
-    size_t out_len);
+    const uint8_t *lib, size_t lib_len, size_t pos, size_t end, size_t remaining, uint64_t yielded,
+    uint8_t *out, size_t out_len);
 
-/* The variable record at the cursor, and the next cursor. Writes a place and a cursor (40
-   bytes); -1, -9, -12. */
+/* The variable record at the cursor, its number, and the next cursor. Writes a place, a u64 and
+   a cursor (56 bytes); -1, -9, -12. */
 int64_t msft_var_step(
-    const uint8_t *lib, size_t lib_len, size_t pos, size_t end, size_t remaining, uint8_t *out,
-    size_t out_len);
+    const uint8_t *lib, size_t lib_len, size_t pos, size_t end, size_t remaining, uint64_t yielded,
+    uint8_t *out, size_t out_len);
 
-/* The parameter at the cursor, and the next cursor. Writes a place and a cursor (40 bytes); -1,
-   -9, -12. */
+/* The parameter at the cursor, its number, and the next cursor. Writes a place, a u64 and a
+   cursor (56 bytes); -1, -9, -12. */
 int64_t msft_param_step(
-    const uint8_t *lib, size_t lib_len, size_t pos, size_t end, size_t remaining, uint8_t *out,
-    size_t out_len);
+    const uint8_t *lib, size_t lib_len, size_t pos, size_t end, size_t remaining, uint64_t yielded,
+    uint8_t *out, size_t out_len);
 
-/* The GUID entry at the cursor, whose 24 bytes end by `end`, and the next cursor. Writes a place
-   and a cursor (32 bytes); -1, -9, -12. */
+/* The GUID entry at the cursor, whose 24 bytes end by `end`, its number, and the next cursor.
+   Writes a place, a u64 and a table cursor (48 bytes); -1, -9, -12. */
 int64_t msft_guid_step(
-    const uint8_t *lib, size_t lib_len, size_t pos, size_t end, uint8_t *out, size_t out_len);
-
-/* The import record at the cursor, whose 12 bytes end by `end`, and the next cursor. Writes a
-   place and a cursor (32 bytes); -1, -9, -12. */
-int64_t msft_import_step(
-    const uint8_t *lib, size_t lib_len, size_t pos, size_t end, uint8_t *out, size_t out_len);
-
-/* The import file at the cursor, whose entry, filled up, ends by `end`, and the next cursor.
-   Writes a place and a cursor (32 bytes); -1, -9, -12. */
-int64_t msft_imp_file_step(
-    const uint8_t *lib, size_t lib_len, size_t pos, size_t end, uint8_t *out, size_t out_len);
-
-/* The name's entry at the cursor, which ends by `end`, its text included, and the next cursor.
-   Writes a name's entry and a cursor (59 bytes); -1, -9, -12. */
-int64_t msft_name_step(
-    const uint8_t *lib, size_t lib_len, size_t pos, size_t end, size_t start, uint8_t *out,
+    const uint8_t *lib, size_t lib_len, size_t pos, size_t end, uint64_t yielded, uint8_t *out,
     size_t out_len);
 
-/* The typeinfo at the cursor, as msft_typeinfo has it, and the next cursor. After -6, -7 or -8,
-   which are one entry's, go on with index + 1. Writes a place and a cursor (24 bytes); -1 to -9,
-   -12. */
+/* The import record at the cursor, whose 12 bytes end by `end`, its number, and the next cursor.
+   Writes a place, a u64 and a table cursor (48 bytes); -1, -9, -12. */
+int64_t msft_import_step(
+    const uint8_t *lib, size_t lib_len, size_t pos, size_t end, uint64_t yielded, uint8_t *out,
+    size_t out_len);
+
+/* The import file at the cursor, whose entry, filled up, ends by `end`, its number, and the next
+   cursor. Writes a place, a u64 and a table cursor (48 bytes); -1, -9, -12. */
+int64_t msft_imp_file_step(
+    const uint8_t *lib, size_t lib_len, size_t pos, size_t end, uint64_t yielded, uint8_t *out,
+    size_t out_len);
+
+/* The name's entry at the cursor, which ends by `end`, its text included, its number, and the
+   next cursor. Writes a name's entry, a u64 and a name cursor (75 bytes); -1, -9, -12. */
+int64_t msft_name_step(
+    const uint8_t *lib, size_t lib_len, size_t pos, size_t end, size_t start, uint64_t yielded,
+    uint8_t *out, size_t out_len);
+
+/* The typeinfo at the cursor, as msft_typeinfo has it, its number, which is `index`, and the next
+   index. After -6, -7 or -8, which are one entry's, go on with index + 1. Writes a place, a u64
+   and an index (32 bytes); -1 to -9, -12. */
 int64_t msft_typeinfo_step(
     const uint8_t *lib, size_t lib_len, size_t index, uint8_t *out, size_t out_len);
 
 /* The reference record at the cursor, whose 16 bytes end inside the table at `at` of `len`
-   bytes, and the next cursor. Writes a place and a chain cursor (36 bytes); -1, -9, -12. */
+   bytes, its number, and the next cursor. Writes a place, a u64 and a chain cursor (52 bytes);
+   -1, -9, -12. */
 int64_t msft_impl_type_step(
-    const uint8_t *lib, size_t lib_len, size_t at, size_t len, uint32_t next, uint8_t *out,
-    size_t out_len);
+    const uint8_t *lib, size_t lib_len, size_t at, size_t len, uint32_t next, uint64_t yielded,
+    uint8_t *out, size_t out_len);
 
 /* How many records the chain has from the cursor on, each inside the table at `at` of `len`
-   bytes: none where this has no bytes. Writes a u64 (8 bytes); -1, -10, -12. */
+   bytes: none where this has no bytes. `yielded` is not looked at. Writes a u64 (8 bytes); -1,
+   -10, -12. */
 int64_t msft_walk(
-    const uint8_t *lib, size_t lib_len, size_t at, size_t len, uint32_t next, uint8_t *out,
-    size_t out_len);
+    const uint8_t *lib, size_t lib_len, size_t at, size_t len, uint32_t next, uint64_t yielded,
+    uint8_t *out, size_t out_len);
 
-/* The typeinfos of the library, from the first. Writes a cursor (8 bytes); -1 to -5, -12. */
+/* The typeinfos of the library, from the first. Writes an index (8 bytes); -1 to -5, -12. */
 int64_t msft_typeinfos(const uint8_t *lib, size_t lib_len, uint8_t *out, size_t out_len);
 
 /* How many typeinfos are left. Writes a u64 (8 bytes); -1 to -5, -12. */
@@ -808,14 +832,24 @@ static inline msft_place msft_unpack_place(const uint8_t *out)
     return p;
 }
 
-/* The cursors of functions, variables and parameters. */
+/* The cursors, and of each its yield: what a step from it wrote, the record, its number and the next
+   cursor in one piece. */
+
+/* Functions, variables and parameters. */
 typedef struct msft_cursor {
     size_t pos;
     size_t end;
     size_t remaining;
+    uint64_t yielded;
 } msft_cursor;
 
-#define MSFT_CURSOR(c) (c).pos, (c).end, (c).remaining
+typedef struct msft_yield {
+    msft_place record;
+    uint64_t number;
+    msft_cursor next;
+} msft_yield;
+
+#define MSFT_CURSOR(c) (c).pos, (c).end, (c).remaining, (c).yielded
 
 static inline msft_cursor msft_unpack_cursor(const uint8_t *out)
 {
@@ -823,65 +857,54 @@ static inline msft_cursor msft_unpack_cursor(const uint8_t *out)
     c.pos = msft_unpack_size(out);
     c.end = msft_unpack_size(out + 8);
     c.remaining = msft_unpack_size(out + 16);
+    c.yielded = msft_le(out + 24, 8);
     return c;
 }
 
-/* The cursors of GUIDs, imports and import files. */
+static inline msft_yield msft_unpack_yield(const uint8_t *out)
+{
+    msft_yield y;
+    y.record = msft_unpack_place(out);
+    y.number = msft_le(out + 16, 8);
+    y.next = msft_unpack_cursor(out + 24);
+    return y;
+}
+
+/* GUIDs, imports and import files. */
 typedef struct msft_table_cursor {
     size_t pos;
     size_t end;
+    uint64_t yielded;
 } msft_table_cursor;
 
-#define MSFT_TABLE_CURSOR(c) (c).pos, (c).end
+typedef struct msft_table_yield {
+    msft_place record;
+    uint64_t number;
+    msft_table_cursor next;
+} msft_table_yield;
+
+#define MSFT_TABLE_CURSOR(c) (c).pos, (c).end, (c).yielded
 
 static inline msft_table_cursor msft_unpack_table_cursor(const uint8_t *out)
 {
     msft_table_cursor c;
     c.pos = msft_unpack_size(out);
     c.end = msft_unpack_size(out + 8);
+    c.yielded = msft_le(out + 16, 8);
     return c;
 }
 
-typedef struct msft_name_cursor {
-    size_t pos;
-    size_t end;
-    size_t start;
-} msft_name_cursor;
-
-#define MSFT_NAME_CURSOR(c) (c).pos, (c).end, (c).start
-
-static inline msft_name_cursor msft_unpack_name_cursor(const uint8_t *out)
+static inline msft_table_yield msft_unpack_table_yield(const uint8_t *out)
 {
-    msft_name_cursor c;
-    c.pos = msft_unpack_size(out);
-    c.end = msft_unpack_size(out + 8);
-    c.start = msft_unpack_size(out + 16);
-    return c;
+    msft_table_yield y;
+    y.record = msft_unpack_place(out);
+    y.number = msft_le(out + 16, 8);
+    y.next = msft_unpack_table_cursor(out + 24);
+    return y;
 }
 
-/* The cursor of implemented types: the reference table, and the next offset in it. */
-typedef struct msft_chain_cursor {
-    size_t at;
-    size_t len;
-    uint32_t next;
-} msft_chain_cursor;
-
-#define MSFT_CHAIN_CURSOR(c) (c).at, (c).len, (c).next
-
-static inline msft_chain_cursor msft_unpack_chain_cursor(const uint8_t *out)
-{
-    msft_chain_cursor c;
-    c.at = msft_unpack_size(out);
-    c.len = msft_unpack_size(out + 8);
-    c.next = (uint32_t)msft_le(out + 16, 4);
-    return c;
-}
-
-/* What a step wrote: the record's place is msft_unpack_place(out), and the next cursor stands behind
-   it, at out + MSFT_STEP; behind a name's entry, at out + MSFT_NAME_STEP. */
-enum { MSFT_STEP = 16, MSFT_NAME_STEP = 35 };
-
-/* A name's entry: its offset in the name table, the place of its text, and the numbers before it. */
+/* Names. An entry has its offset in the name table, the place of its text, and the numbers before
+   the text. */
 typedef struct msft_name_entry {
     size_t offset;
     msft_place text;
@@ -890,6 +913,21 @@ typedef struct msft_name_entry {
     uint8_t flags;
     uint16_t hashcode;
 } msft_name_entry;
+
+typedef struct msft_name_cursor {
+    size_t pos;
+    size_t end;
+    size_t start;
+    uint64_t yielded;
+} msft_name_cursor;
+
+typedef struct msft_name_yield {
+    msft_name_entry record;
+    uint64_t number;
+    msft_name_cursor next;
+} msft_name_yield;
+
+#define MSFT_NAME_CURSOR(c) (c).pos, (c).end, (c).start, (c).yielded
 
 static inline msft_name_entry msft_unpack_name_entry(const uint8_t *out)
 {
@@ -901,6 +939,76 @@ static inline msft_name_entry msft_unpack_name_entry(const uint8_t *out)
     e.flags = out[32];
     e.hashcode = (uint16_t)msft_le(out + 33, 2);
     return e;
+}
+
+static inline msft_name_cursor msft_unpack_name_cursor(const uint8_t *out)
+{
+    msft_name_cursor c;
+    c.pos = msft_unpack_size(out);
+    c.end = msft_unpack_size(out + 8);
+    c.start = msft_unpack_size(out + 16);
+    c.yielded = msft_le(out + 24, 8);
+    return c;
+}
+
+static inline msft_name_yield msft_unpack_name_yield(const uint8_t *out)
+{
+    msft_name_yield y;
+    y.record = msft_unpack_name_entry(out);
+    y.number = msft_le(out + 35, 8);
+    y.next = msft_unpack_name_cursor(out + 43);
+    return y;
+}
+
+/* Typeinfos. Their cursor is an index, which msft_unpack_size reads. */
+typedef struct msft_typeinfo_yield {
+    msft_place record;
+    uint64_t number;
+    size_t next;
+} msft_typeinfo_yield;
+
+static inline msft_typeinfo_yield msft_unpack_typeinfo_yield(const uint8_t *out)
+{
+    msft_typeinfo_yield y;
+    y.record = msft_unpack_place(out);
+    y.number = msft_le(out + 16, 8);
+    y.next = msft_unpack_size(out + 24);
+    return y;
+}
+
+/* Implemented types: the reference table, and the next offset in it. */
+typedef struct msft_chain_cursor {
+    size_t at;
+    size_t len;
+    uint32_t next;
+    uint64_t yielded;
+} msft_chain_cursor;
+
+typedef struct msft_chain_yield {
+    msft_place record;
+    uint64_t number;
+    msft_chain_cursor next;
+} msft_chain_yield;
+
+#define MSFT_CHAIN_CURSOR(c) (c).at, (c).len, (c).next, (c).yielded
+
+static inline msft_chain_cursor msft_unpack_chain_cursor(const uint8_t *out)
+{
+    msft_chain_cursor c;
+    c.at = msft_unpack_size(out);
+    c.len = msft_unpack_size(out + 8);
+    c.next = (uint32_t)msft_le(out + 16, 4);
+    c.yielded = msft_le(out + 20, 8);
+    return c;
+}
+
+static inline msft_chain_yield msft_unpack_chain_yield(const uint8_t *out)
+{
+    msft_chain_yield y;
+    y.record = msft_unpack_place(out);
+    y.number = msft_le(out + 16, 8);
+    y.next = msft_unpack_chain_cursor(out + 24);
+    return y;
 }
 
 /* The bounds of one dimension of an array. */

@@ -6,6 +6,7 @@ mod cursors;
 mod library;
 pub mod numbers;
 pub mod pool;
+pub mod stepped;
 mod table;
 mod views;
 

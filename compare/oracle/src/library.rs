@@ -111,8 +111,9 @@ asks! {
 ///
 /// A reading at an offset or of a word has that word first, as a 32-bit pattern; one by an index has
 /// the index first, and a member's name its own index second. A reading of a record has the record's
-/// place and length, and an index third. `TablePlace` has a segment, a size and an offset. `Sheet` has
-/// the length of the output.
+/// place and length, and an index third. A cursor has third how far below 0, in 64 bits, its count is set before
+/// its first step: 0 leaves it as it was made, 1 sets it to the largest. `TablePlace` has a segment, a size and an
+/// offset. `Sheet` has the length of the output.
 #[derive(Clone, Copy, Debug, PartialEq, Eq, PartialOrd, Ord, Hash)]
 pub struct Question {
     pub ask: Ask,
@@ -127,6 +128,9 @@ impl Question {
 
 /// The most records of a chain that are asked for: one that comes round has no end.
 const LONGEST_CHAIN: usize = 40;
+
+/// The answer that is the number of a cursor's record.
+pub const NUMBER: &str = "number";
 
 /// An answer of one byte: the number of a refusal, or 0 for a value that says no more.
 struct Refused(u8);
@@ -184,6 +188,7 @@ pub fn answers_beside(own: &[u8], lent: &[u8], question: Question) -> Vec<Readin
     let mut told = Told {
         lent,
         ask,
+        count: 0,
         readings: Vec::new(),
     };
     let lib = match (ask, TypeLib::parse(own)) {
@@ -216,6 +221,8 @@ pub fn answers_beside(own: &[u8], lent: &[u8], question: Question) -> Vec<Readin
 struct Told<'a> {
     lent: &'a [u8],
     ask: Ask,
+    /// The count that a cursor has at its start.
+    count: u64,
     readings: Vec<Reading>,
 }
 
@@ -438,7 +445,8 @@ impl<'a> Told<'a> {
     }
 
     /// A cursor from its start to its end, and one step more.
-    fn cursor(&mut self, lib: &TypeLib<'a>, [at, len, _]: [u32; 3]) {
+    fn cursor(&mut self, lib: &TypeLib<'a>, [at, len, below]: [u32; 3]) {
+        self.count = u64::from(below).wrapping_neg();
         match self.ask {
             Ask::Typeinfos => return self.typeinfos(lib),
             Ask::Guids => return self.guids(lib),
@@ -464,21 +472,29 @@ impl<'a> Told<'a> {
         }
     }
 
+    /// The number of a record, and how many its cursor has yielded then. From a count of 0 the number is that of
+    /// `enumerate`; from another one it goes on, and the largest stays, as document 02 says.
+    fn number(&mut self, number: usize) {
+        let number = self.count.saturating_add(number as u64);
+        self.tell(NUMBER, Case(number, number.saturating_add(1)));
+    }
+
     /// The end of a cursor: nothing.
     fn end(&mut self) {
         self.tell("end", Refused(NOTHING));
     }
 
-    /// The items of an iterator that says how many are left at most, each behind what it says; then its
-    /// end, twice.
-    fn hinted<I: Iterator>(&mut self, mut items: I, mut record: impl FnMut(&mut Self, I::Item)) {
+    /// The items of an iterator that says how many are left at most, each with its number and behind what it says; then
+    /// its end, twice.
+    fn hinted<I: Iterator>(&mut self, items: I, mut record: impl FnMut(&mut Self, usize, I::Item)) {
+        let mut items = items.enumerate();
         let mut ends = 0;
         while ends < 2 {
             let (_, most) = items.size_hint();
             let most = most.expect("these iterators know");
             self.tell("size_hint", most);
             match items.next() {
-                Some(item) => record(self, item),
+                Some((number, item)) => record(self, number, item),
                 None => {
                     self.end();
                     ends += 1;
@@ -487,32 +503,47 @@ impl<'a> Told<'a> {
         }
     }
 
-    /// The items of any other iterator, and its end, twice.
+    /// The items of any other iterator, each with its number, and its end, twice.
     fn plain<I: Iterator>(&mut self, mut items: I, mut record: impl FnMut(&mut Self, I::Item)) {
-        for item in items.by_ref() {
+        for (number, item) in items.by_ref().enumerate() {
             record(self, item);
+            self.number(number);
         }
         self.end();
         assert!(items.next().is_none(), "the end stays the end");
         self.end();
     }
 
+    /// A refused typeinfo is counted, and has no number.
     fn typeinfos(&mut self, lib: &TypeLib<'a>) {
-        self.hinted(lib.typeinfos(), |told, typeinfo| {
+        assert_eq!(self.count, 0, "typeinfos have an index, and no count");
+        self.hinted(lib.typeinfos(), |told, number, typeinfo| {
             told.typeinfo_or_refusal("typeinfos", typeinfo);
+            if typeinfo.is_ok() {
+                told.number(number);
+            }
         });
     }
 
     fn funcs(&mut self, lib: &TypeLib<'a>, typeinfo: TypeInfoEntry<'a>) {
-        self.hinted(lib.funcs(&typeinfo), |told, func| told.own(func.as_bytes()));
+        self.hinted(lib.funcs(&typeinfo), |told, number, func| {
+            told.own(func.as_bytes());
+            told.number(number);
+        });
     }
 
     fn vars(&mut self, lib: &TypeLib<'a>, typeinfo: TypeInfoEntry<'a>) {
-        self.hinted(lib.vars(&typeinfo), |told, var| told.own(var.as_bytes()));
+        self.hinted(lib.vars(&typeinfo), |told, number, var| {
+            told.own(var.as_bytes());
+            told.number(number);
+        });
     }
 
     fn params(&mut self, lib: &TypeLib<'a>, func: FuncRecord<'a>) {
-        self.hinted(lib.params(&func), |told, param| told.own(param.held()));
+        self.hinted(lib.params(&func), |told, number, param| {
+            told.own(param.held());
+            told.number(number);
+        });
     }
 
     fn guids(&mut self, lib: &TypeLib<'a>) {
@@ -547,8 +578,9 @@ impl<'a> Told<'a> {
     /// A chain that comes round is followed for some records only, and has no end.
     fn impl_types(&mut self, lib: &TypeLib<'a>, typeinfo: TypeInfoEntry<'a>) {
         let mut references = lib.impl_types(&typeinfo);
-        for reference in references.by_ref().take(LONGEST_CHAIN) {
+        for (number, reference) in references.by_ref().enumerate().take(LONGEST_CHAIN) {
             self.own(reference.held());
+            self.number(number);
         }
         if references.next().is_none() {
             self.end();

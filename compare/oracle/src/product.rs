@@ -4,11 +4,11 @@
 use std::array;
 
 /// An output for any reading but the sheet, and the numbers in it.
-pub struct Out([u8; 64]);
+pub struct Out([u8; 80]);
 
 impl Default for Out {
     fn default() -> Self {
-        Out([0; 64])
+        Out([0; 80])
     }
 }
 
@@ -43,12 +43,12 @@ calls! {
     sheet msft_sheet(),
     typeinfo msft_typeinfo(index: usize),
     impl_types msft_impl_types(at: usize, len: usize),
-    walk msft_walk(at: usize, len: usize, next: u32),
+    walk msft_walk(at: usize, len: usize, next: u32, yielded: u64),
     member_name msft_member_name(index: usize, k: usize),
     funcs msft_funcs(at: usize, len: usize),
-    func_step msft_func_step(pos: usize, end: usize, remaining: usize),
+    func_step msft_func_step(pos: usize, end: usize, remaining: usize, yielded: u64),
     names msft_names(),
-    name_step msft_name_step(pos: usize, end: usize, start: usize),
+    name_step msft_name_step(pos: usize, end: usize, start: usize, yielded: u64),
     name msft_name(offset: i32),
     name_bytes msft_name_bytes(offset: i32),
     string msft_string(offset: i32),
@@ -91,15 +91,16 @@ pub fn typeinfo(lib: &[u8], index: usize, out: &mut Out) -> Option<(usize, usize
     (reply > 0).then_some((at, len))
 }
 
-/// The cursor at the first type that a typeinfo implements.
-pub fn impl_types(lib: &[u8], at: usize, len: usize, out: &mut Out) -> Option<(usize, usize, u32)> {
+/// The cursor at the first type that a typeinfo implements; its next offset has four bytes.
+pub fn impl_types(lib: &[u8], at: usize, len: usize, out: &mut Out) -> Option<[usize; 4]> {
     let reply = raw::impl_types(lib, at, len, &mut out.0);
     let [at, len, next] = out.numbers(0);
-    (reply > 0).then_some((at, len, next as u32))
+    let [yielded] = out.numbers(20);
+    (reply > 0).then_some([at, len, next as u32 as usize, yielded])
 }
 
-pub fn walk(lib: &[u8], at: usize, len: usize, next: u32, out: &mut Out) -> Option<usize> {
-    let reply = raw::walk(lib, at, len, next, &mut out.0);
+pub fn walk(lib: &[u8], [at, len, next, yielded]: [usize; 4], out: &mut Out) -> Option<usize> {
+    let reply = raw::walk(lib, at, len, next as u32, yielded as u64, &mut out.0);
     let [count] = out.numbers(0);
     (reply > 0).then_some(count)
 }
@@ -112,27 +113,35 @@ pub fn member_name(lib: &[u8], index: usize, k: usize, out: &mut Out) -> Option<
 }
 
 /// The cursor at a typeinfo's first function.
-pub fn funcs(lib: &[u8], at: usize, len: usize, out: &mut Out) -> Option<[usize; 3]> {
+pub fn funcs(lib: &[u8], at: usize, len: usize, out: &mut Out) -> Option<[usize; 4]> {
     let reply = raw::funcs(lib, at, len, &mut out.0);
     (reply > 0).then(|| out.numbers(0))
 }
 
 /// The cursor behind the function at this one.
-pub fn func_step(lib: &[u8], [pos, end, left]: [usize; 3], out: &mut Out) -> Option<[usize; 3]> {
-    let reply = raw::func_step(lib, pos, end, left, &mut out.0);
-    (reply > 0).then(|| out.numbers(16))
+pub fn func_step(
+    lib: &[u8],
+    [pos, end, left, yielded]: [usize; 4],
+    out: &mut Out,
+) -> Option<[usize; 4]> {
+    let reply = raw::func_step(lib, pos, end, left, yielded as u64, &mut out.0);
+    (reply > 0).then(|| out.numbers(24))
 }
 
 /// The cursor at the first name.
-pub fn names(lib: &[u8], out: &mut Out) -> [usize; 3] {
+pub fn names(lib: &[u8], out: &mut Out) -> [usize; 4] {
     raw::names(lib, &mut out.0);
     out.numbers(0)
 }
 
 /// The cursor behind the name at this one.
-pub fn name_step(lib: &[u8], [pos, end, start]: [usize; 3], out: &mut Out) -> Option<[usize; 3]> {
-    let reply = raw::name_step(lib, pos, end, start, &mut out.0);
-    (reply > 0).then(|| out.numbers(35))
+pub fn name_step(
+    lib: &[u8],
+    [pos, end, start, yielded]: [usize; 4],
+    out: &mut Out,
+) -> Option<[usize; 4]> {
+    let reply = raw::name_step(lib, pos, end, start, yielded as u64, &mut out.0);
+    (reply > 0).then(|| out.numbers(43))
 }
 
 /// The length of the name at an offset; 0 where there is none.

@@ -1,5 +1,5 @@
 -- Laws of `Cursors`, a case each. Assumes nothing.
-use mathlib.Core.Path.{_≡_, refl, sym, _∙_, ap}
+use mathlib.Core.Path.{_≡_, refl, _∙_, ap}
 use mathlib.Core.Bool.{Bool, true, false, cond}
 use mathlib.Core.List.{List}
 use mathlib.Core.Option.{Option, some, none}
@@ -12,13 +12,9 @@ use Rattle.util.specs.Read.{le, read, cond-elim}
 use Rattle.records.specs.declared.answer.Place.{Place}
 use Rattle.records.specs.Answer.{Answer, value, refused, bind}
 use Rattle.records.specs.Record.{limit}
-use Rattle.cursors.specs.declared.iterators.FuncCursor.{FuncCursor}
-use Rattle.cursors.specs.declared.iterators.VarCursor.{VarCursor}
-use Rattle.cursors.specs.declared.iterators.ParamCursor.{ParamCursor}
 use Rattle.typelib.specs.TableLaws.{lent-fits, table-there, in-table}
 use Rattle.typelib.specs.Tables.{lent, inTable}
-use Rattle.cursors.specs.Cursors.{funcStepFrom, funcStep, varStepFrom, varStep, paramStepFrom, paramStep}
-use Rattle.cursors.specs.Cursors.{Step, yielded, ended, sizeAt, recordAt, blockFrom, blockWith, skip, fixedAt, paramCursor, paramAt}
+use Rattle.cursors.specs.Cursors.{BlockAt, sizeAt, recordAt, blockFrom, blockWith, skip, fixedAt, paramCursor, paramAt}
 
 -- ---- records that carry their length
 
@@ -130,13 +126,13 @@ fixed s pos end size p =
     })
     (λ _. no 9))
 
-pub param-none : (s : List ℕ) (c : ParamCursor) → c .remaining ≡ 0 → refused 9 ≡ paramAt s c
+pub param-none : (s : List ℕ) (d : BlockAt) → d .remaining ≡ 0 → refused 9 ≡ paramAt s d
 unfolding paramAt
-param-none s c h = rw (eq-eqb (c .remaining) 0 h)
+param-none s d h = rw (eq-eqb (d .remaining) 0 h)
 
-pub param-some : (s : List ℕ) (c : ParamCursor) → (c .remaining ≡ 0 → ⊥) → lent s (fixedAt s (c .pos) (c .end) 12) ≡ lent s (paramAt s c)
+pub param-some : (s : List ℕ) (d : BlockAt) → (d .remaining ≡ 0 → ⊥) → lent s (fixedAt s (d .pos) (d .end) 12) ≡ lent s (paramAt s d)
 unfolding paramAt
-param-some s c h = rw (ne-eqb (c .remaining) 0 h)
+param-some s d h = rw (ne-eqb (d .remaining) 0 h)
 
 -- the length of a record, as the code takes it
 pub size-is : (s : List ℕ) (pos info r : ℕ) → info ≡ le 4 s pos → r ≡ info / 2 ^ 0 % 2 ^ 16 → r ≡ sizeAt s pos
@@ -169,19 +165,19 @@ lent-bind s a f n e = lent-refused s a (λ x. bind x f) n refl e
 
 -- ---- parameters
 
-pub record Param (s : List ℕ) (c : ParamCursor) (p : Place) : Type 0 where
-  pub some : 0 < c .remaining
-  pub inside : c .pos + 12 ≤ length s
+pub record Param (s : List ℕ) (d : BlockAt) (p : Place) : Type 0 where
+  pub some : 0 < d .remaining
+  pub inside : d .pos + 12 ≤ length s
 
-pub param : (s : List ℕ) (c : ParamCursor) (p : Place) → value p ≡ lent s (paramAt s c) → Param s c p
+pub param : (s : List ℕ) (d : BlockAt) (p : Place) → value p ≡ lent s (paramAt s d) → Param s d p
 unfolding paramAt
-param s c p e =
-    let v = lent-value s p (paramAt s c) e in
-    cond-elim (λ (r : Answer Place). value p ≡ r → Param s c p) (eqb (c .remaining) 0) (refused 9) (fixedAt s (c .pos) (c .end) 12)
+param s d p e =
+    let v = lent-value s p (paramAt s d) e in
+    cond-elim (λ (r : Answer Place). value p ≡ r → Param s d p) (eqb (d .remaining) 0) (refused 9) (fixedAt s (d .pos) (d .end) 12)
     (λ _ f. let z : _≡_ {A = ℕ} 0 1 = cc in absurd (omega arith))
     (λ h f.
-    let x = fixed s (c .pos) (c .end) 12 p (lent-fits s (fixedAt s (c .pos) (c .end) 12) (value p) (v .few) f) in
-    record { some = omega (arith, eqb-false (c .remaining) 0 h); inside = x .inside })
+    let x = fixed s (d .pos) (d .end) 12 p (lent-fits s (fixedAt s (d .pos) (d .end) 12) (value p) (v .few) f) in
+    record { some = omega (arith, eqb-false (d .remaining) 0 h); inside = x .inside })
     (v .is)
 
 -- ---- blocks
@@ -227,34 +223,10 @@ skip-done s pos = refl
 
 -- ---- the parameters' cursor
 
-pub params-none : (r : Place) (n : ℕ) → r .len < 12 * n → record { pos = 0; end = 0; remaining = 0 } ≡ paramCursor r n
+pub params-none : (r : Place) (n : ℕ) → r .len < 12 * n → record { pos = 0; end = 0; remaining = 0; yielded = 0 } ≡ paramCursor r n
 unfolding paramCursor
 params-none r n h = rw (lt-ltb (r .len) (12 * n) h)
 
-pub params-there : (r : Place) (n : ℕ) → 12 * n ≤ r .len → record { pos = r .at + (r .len - 12 * n); end = r .at + r .len; remaining = n } ≡ paramCursor r n
+pub params-there : (r : Place) (n : ℕ) → 12 * n ≤ r .len → record { pos = r .at + (r .len - 12 * n); end = r .at + r .len; remaining = n; yielded = 0 } ≡ paramCursor r n
 unfolding paramCursor
 params-there r n h = rw (le-ltb (r .len) (12 * n) h)
-
--- ---- a cursor that has yielded nothing
-
--- It comes back as it was, so that over the same bytes it yields nothing again: what a step makes of a value is never an
--- end, and what it makes of a refusal is an end where the cursor stands.
-pub stays : {A C : Type 0} (c : C) (from : Answer A → Step C) → ((x : A) (n : ℕ) (d : C) → ended n d ≡ from (value x) → ⊥) → ((n : ℕ) → from (refused n) ≡ ended n c) → (a : Answer A) (n : ℕ) (d : C) → ended n d ≡ from a → d ≡ c
-stays c from go end (value x) n d e = absurd (go x n d e)
-stays c from go end (refused m) n d e = let f = end m in cc
-
-pub yields : {C : Type 0} (n : ℕ) (d : C) (p : Place) (c : C) → ended n d ≡ yielded p c → ⊥
-yields n d p c e = let z : _≡_ {A = ℕ} 0 1 = cc in omega arith
-
-module _ (s : List ℕ) (n : ℕ) where
-  pub func-again : (c d : FuncCursor) → ended n d ≡ funcStep s c → ended n d ≡ funcStep s d
-  func-again c d e =
-      e ∙ ap (funcStep s) (sym (stays c (funcStepFrom c) (λ x m b. yields m b _ _) (λ m. refl) (lent s (recordAt s (c .pos) (c .end) (c .remaining) 24)) n d e))
-
-  pub var-again : (c d : VarCursor) → ended n d ≡ varStep s c → ended n d ≡ varStep s d
-  var-again c d e =
-      e ∙ ap (varStep s) (sym (stays c (varStepFrom c) (λ x m b. yields m b _ _) (λ m. refl) (lent s (recordAt s (c .pos) (c .end) (c .remaining) 20)) n d e))
-
-  pub param-again : (c d : ParamCursor) → ended n d ≡ paramStep s c → ended n d ≡ paramStep s d
-  param-again c d e =
-      e ∙ ap (paramStep s) (sym (stays c (paramStepFrom c) (λ x m b. yields m b _ _) (λ m. refl) (lent s (paramAt s c)) n d e))

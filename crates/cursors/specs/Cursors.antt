@@ -1,4 +1,5 @@
--- What a cursor yields in one step, as one `next` of the source's iterators. Assumes nothing.
+-- What a cursor yields in one step, as one `next` of the source's iterators, with its number (document 02, §10). Assumes nothing.
+use mathlib.Core.Path.{refl}
 use mathlib.Core.Bool.{cond}
 use mathlib.Core.List.{List}
 use mathlib.Core.Option.{Option, some, none}
@@ -16,19 +17,52 @@ use Rattle.records.specs.Record.{bitsOf, recordPlace}
 use Rattle.cursors.specs.declared.iterators.FuncCursor.{FuncCursor}
 use Rattle.cursors.specs.declared.iterators.VarCursor.{VarCursor}
 use Rattle.cursors.specs.declared.iterators.ParamCursor.{ParamCursor}
+use Rattle.cursors.specs.Numbers.{Next, nextBy, Step, Counting, withNumber}
 use Rattle.typelib.specs.declared.typeinfos.Counts.{Counts}
 use Rattle.typelib.specs.Tables.{lent, negative, inTable}
 use Rattle.typelib.specs.TypeInfos.{ofTypeInfo, countsOf}
 
--- a record and the next cursor; or a refusal and a cursor, which is the same one at the end
-pub data Step (C : Type 0) : Type 0 where
-  yielded : Place → C → Step C
-  ended : ℕ → C → Step C
+-- ---- where a cursor stands
 
--- goes on with the value, or ends where the cursor stands
-abbrev pub stepBy : {A C : Type 0} → C → (A → Step C) → Answer A → Step C
-stepBy c f (value a) = f a
-stepBy c f (refused n) = ended n c
+-- before a record, in a block or a function's record that ends at `end`, with so many left at most
+pub record BlockAt : Type 0 where
+  pub pos : ℕ
+  pub end : ℕ
+  pub remaining : ℕ
+
+-- the three cursors are that, and how many records they have yielded
+abbrev pub overFuncs : Counting FuncCursor BlockAt
+overFuncs =
+    record {
+      stands = λ c. record { pos = c .pos; end = c .end; remaining = c .remaining };
+      count = λ c. c .yielded;
+      cursor = λ d n. record { pos = d .pos; end = d .end; remaining = d .remaining; yielded = n };
+      whole = λ c. refl;
+      stood = λ d n. refl;
+      counted = λ d n. refl;
+    }
+
+abbrev pub overVars : Counting VarCursor BlockAt
+overVars =
+    record {
+      stands = λ c. record { pos = c .pos; end = c .end; remaining = c .remaining };
+      count = λ c. c .yielded;
+      cursor = λ d n. record { pos = d .pos; end = d .end; remaining = d .remaining; yielded = n };
+      whole = λ c. refl;
+      stood = λ d n. refl;
+      counted = λ d n. refl;
+    }
+
+abbrev pub overParams : Counting ParamCursor BlockAt
+overParams =
+    record {
+      stands = λ c. record { pos = c .pos; end = c .end; remaining = c .remaining };
+      count = λ c. c .yielded;
+      cursor = λ d n. record { pos = d .pos; end = d .end; remaining = d .remaining; yielded = n };
+      whole = λ c. refl;
+      stood = λ d n. refl;
+      counted = λ d n. refl;
+    }
 
 -- ---- records of a block, which carry their length
 
@@ -46,21 +80,20 @@ recordAt s pos end remaining least =
     (cond (ltb (sizeAt s pos) least) (refused 9)
     (cond (ltb (length s) (pos + sizeAt s pos)) (refused 9) (value (sizeAt s pos))))))
 
-abbrev pub funcStepFrom : FuncCursor → Answer ℕ → Step FuncCursor
-funcStepFrom c =
-    stepBy c (λ n.
-    yielded (record { at = c .pos; len = n }) (record { pos = c .pos + n; end = c .end; remaining = c .remaining - 1 }))
+-- functions and variables, by the size of their fixed part
+abbrev pub blockNextFrom : BlockAt → Answer ℕ → Next Place BlockAt
+blockNextFrom d =
+    nextBy d (λ n. record { at = d .pos; len = n }) (λ n.
+    record { pos = d .pos + n; end = d .end; remaining = d .remaining - 1 })
 
-abbrev pub funcStep : List ℕ → FuncCursor → Step FuncCursor
-funcStep s c = funcStepFrom c (lent s (recordAt s (c .pos) (c .end) (c .remaining) (sizeOf funcRecord)))
+abbrev pub blockNext : ℕ → List ℕ → BlockAt → Next Place BlockAt
+blockNext least s d = blockNextFrom d (lent s (recordAt s (d .pos) (d .end) (d .remaining) least))
 
-abbrev pub varStepFrom : VarCursor → Answer ℕ → Step VarCursor
-varStepFrom c =
-    stepBy c (λ n.
-    yielded (record { at = c .pos; len = n }) (record { pos = c .pos + n; end = c .end; remaining = c .remaining - 1 }))
+abbrev pub funcStep : List ℕ → FuncCursor → Step Place FuncCursor
+funcStep s = withNumber overFuncs (blockNext (sizeOf funcRecord) s)
 
-abbrev pub varStep : List ℕ → VarCursor → Step VarCursor
-varStep s c = varStepFrom c (lent s (recordAt s (c .pos) (c .end) (c .remaining) (sizeOf varRecord)))
+abbrev pub varStep : List ℕ → VarCursor → Step Place VarCursor
+varStep s = withNumber overVars (blockNext (sizeOf varRecord) s)
 
 -- the block at a memoffset, if it has one and anything is declared: its first record, and its end
 abbrev pub blockFrom : ℕ → Option ℕ → Option Place
@@ -73,8 +106,8 @@ blockWith s memoffset count =
     (cond (eqb count 0) none (blockFrom memoffset (read 4 s memoffset)))
 
 abbrev pub funcCursor : ℕ → Option Place → FuncCursor
-funcCursor count none = record { pos = 0; end = 0; remaining = 0 }
-funcCursor count (some b) = record { pos = b .at; end = b .at + b .len; remaining = count }
+funcCursor count none = record { pos = 0; end = 0; remaining = 0; yielded = 0 }
+funcCursor count (some b) = record { pos = b .at; end = b .at + b .len; remaining = count; yielded = 0 }
 
 abbrev pub funcsOf : List ℕ → TypeInfoEntry → Answer FuncCursor
 funcsOf s ti =
@@ -89,11 +122,11 @@ skip (suc n) s pos =
     (cond (eqb (sizeAt s pos) 0) (some pos) (skip n s (pos + sizeAt s pos)))
 
 abbrev pub varsFrom : ℕ → ℕ → Option ℕ → VarCursor
-varsFrom end count none = record { pos = 0; end = 0; remaining = 0 }
-varsFrom end count (some pos) = record { pos = pos; end = end; remaining = count }
+varsFrom end count none = record { pos = 0; end = 0; remaining = 0; yielded = 0 }
+varsFrom end count (some pos) = record { pos = pos; end = end; remaining = count; yielded = 0 }
 
 abbrev pub varCursor : List ℕ → Counts → Option Place → VarCursor
-varCursor s c none = record { pos = 0; end = 0; remaining = 0 }
+varCursor s c none = record { pos = 0; end = 0; remaining = 0; yielded = 0 }
 varCursor s c (some b) = varsFrom (b .at + b .len) (c .vars) (skip (c .funcs) s (b .at))
 
 abbrev pub varsOf : List ℕ → TypeInfoEntry → Answer VarCursor
@@ -112,21 +145,24 @@ fixedAt s pos end size =
 -- the parameters of a function are the last 12 bytes each of its record; none where they are more than the record
 unfoldable pub paramCursor : Place → ℕ → ParamCursor
 paramCursor r n =
-    cond (ltb (r .len) (sizeOf parameterInfo * n)) (record { pos = 0; end = 0; remaining = 0 })
-    (record { pos = r .at + (r .len - sizeOf parameterInfo * n); end = r .at + r .len; remaining = n })
+    cond (ltb (r .len) (sizeOf parameterInfo * n)) (record { pos = 0; end = 0; remaining = 0; yielded = 0 })
+    (record { pos = r .at + (r .len - sizeOf parameterInfo * n); end = r .at + r .len; remaining = n; yielded = 0 })
 
 abbrev pub paramsOf : List ℕ → FuncRecord → Answer ParamCursor
 paramsOf s f =
     bind (recordPlace (sizeOf funcRecord) s (f .at) (f .len)) (λ r.
     map (paramCursor r) (argumentCount s (f .at) (f .len)))
 
-unfoldable pub paramAt : List ℕ → ParamCursor → Answer Place
-paramAt s c = cond (eqb (c .remaining) 0) (refused 9) (fixedAt s (c .pos) (c .end) (sizeOf parameterInfo))
+unfoldable pub paramAt : List ℕ → BlockAt → Answer Place
+paramAt s d = cond (eqb (d .remaining) 0) (refused 9) (fixedAt s (d .pos) (d .end) (sizeOf parameterInfo))
 
-abbrev pub paramStepFrom : ParamCursor → Answer Place → Step ParamCursor
-paramStepFrom c =
-    stepBy c (λ p.
-    yielded p (record { pos = c .pos + sizeOf parameterInfo; end = c .end; remaining = c .remaining - 1 }))
+abbrev pub paramNextFrom : BlockAt → Answer Place → Next Place BlockAt
+paramNextFrom d =
+    nextBy d (λ p. p) (λ p.
+    record { pos = d .pos + sizeOf parameterInfo; end = d .end; remaining = d .remaining - 1 })
 
-abbrev pub paramStep : List ℕ → ParamCursor → Step ParamCursor
-paramStep s c = paramStepFrom c (lent s (paramAt s c))
+abbrev pub paramNext : List ℕ → BlockAt → Next Place BlockAt
+paramNext s d = paramNextFrom d (lent s (paramAt s d))
+
+abbrev pub paramStep : List ℕ → ParamCursor → Step Place ParamCursor
+paramStep s = withNumber overParams (paramNext s)

@@ -22,18 +22,18 @@ use Rattle.cursors.specs.declared.iterators.Skipped.{Skipped}
 use Rattle.cursors.specs.declared.iterators.Skipped.the-variants as skipped
 use Rattle.cursors.specs.declared.iterators.Block.{Block}
 use Rattle.cursors.specs.declared.iterators.Block.the-variants as block
-use Rattle.cursors.specs.Cursors.{Step, yielded, ended}
+use Rattle.cursors.specs.Numbers.{Step, yielded, ended}
 
-abbrev pub toldFuncStep : FuncStep → Step FuncCursor
-toldFuncStep (funcStep.Record r c) = yielded (record { at = r .at; len = r .len }) c
+abbrev pub toldFuncStep : FuncStep → Step Place FuncCursor
+toldFuncStep (funcStep.Record r number c) = yielded (record { at = r .at; len = r .len }) number c
 toldFuncStep (funcStep.Refused n c) = ended n c
 
-abbrev pub toldVarStep : VarStep → Step VarCursor
-toldVarStep (varStep.Record r c) = yielded (record { at = r .at; len = r .len }) c
+abbrev pub toldVarStep : VarStep → Step Place VarCursor
+toldVarStep (varStep.Record r number c) = yielded (record { at = r .at; len = r .len }) number c
 toldVarStep (varStep.Refused n c) = ended n c
 
-abbrev pub toldParamStep : ParamStep → Step ParamCursor
-toldParamStep (paramStep.Record r c) = yielded (record { at = r .at; len = r .len }) c
+abbrev pub toldParamStep : ParamStep → Step Place ParamCursor
+toldParamStep (paramStep.Record r number c) = yielded (record { at = r .at; len = r .len }) number c
 toldParamStep (paramStep.Refused n c) = ended n c
 
 abbrev pub toldFuncs : FuncsAnswer → Answer FuncCursor

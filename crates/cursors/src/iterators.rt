@@ -1,8 +1,8 @@
 // Cursors over the members of a typeinfo and over the parameters of a function: iterators.rs of the
 // source. (Those over tables are in `table_cursors`.)
 //
-// A cursor goes in by value and comes back. One step replies as one `next` of the source: the record
-// and the next cursor, or a refusal and the same cursor. 9 is the end.
+// A cursor goes in by value and comes back. One step replies as one `next` of the source: the record,
+// its number from 0 and the next cursor, or a refusal and the same cursor. 9 is the end.
 use member_records::func::FuncRecord;
 use member_records::param::ParameterInfo;
 use member_records::var::VarRecord;
@@ -21,18 +21,23 @@ use util::NEGATIVE;
 ghost use mathlib.Core.Path.{_≡_};
 ghost use Prim.Native.Nat.{_+_, _^_, _<_};
 ghost use Rattle.records.specs.Told.{toldPlace, toldUsize};
-ghost use Rattle.cursors.specs.Cursors.{recordAt, funcStep, varStep, blockWith, funcCursor, funcsOf, skip, varsFrom, varCursor, varsOf, fixedAt, paramCursor, paramsOf, paramAt, paramStep};
+ghost use Rattle.cursors.specs.Cursors.{recordAt, funcStep, varStep, blockWith, funcCursor, funcsOf, skip, varsFrom, varCursor, varsOf, fixedAt, paramCursor, paramsOf, overParams, paramAt, paramStep};
+ghost use Rattle.cursors.specs.Numbers.{numberOf};
 ghost use Rattle.typelib.specs.Tables.{lent};
 ghost use Rattle.cursors.specs.Told.{toldFuncs, toldFuncStep, toldVars, toldVarStep, toldParams, toldParamStep, toldBlock, toldSkip};
+
+// The largest number that a record is given.
+const LARGEST: u64 = 0xFFFF_FFFF_FFFF_FFFF;
 
 pub struct FuncCursor {
     pub pos: usize,
     pub end: usize,
     pub remaining: usize,
+    pub yielded: u64,
 }
 
 pub enum FuncStep {
-    Record(FuncRecord, FuncCursor),
+    Record(FuncRecord, u64, FuncCursor),
     Refused(u8, FuncCursor),
 }
 
@@ -45,10 +50,11 @@ pub struct VarCursor {
     pub pos: usize,
     pub end: usize,
     pub remaining: usize,
+    pub yielded: u64,
 }
 
 pub enum VarStep {
-    Record(VarRecord, VarCursor),
+    Record(VarRecord, u64, VarCursor),
     Refused(u8, VarCursor),
 }
 
@@ -61,10 +67,11 @@ pub struct ParamCursor {
     pub pos: usize,
     pub end: usize,
     pub remaining: usize,
+    pub yielded: u64,
 }
 
 pub enum ParamStep {
-    Record(ParameterInfo, ParamCursor),
+    Record(ParameterInfo, u64, ParamCursor),
     Refused(u8, ParamCursor),
 }
 
@@ -132,10 +139,12 @@ impl FuncCursor {
         match record_at(s, pos, self.end, self.remaining, FuncRecord::BASE_SIZE) {
             UsizeAnswer::Value(len) => FuncStep::Record(
                 FuncRecord { at: pos, len },
+                self.yielded,
                 FuncCursor {
                     pos: pos + len,
                     end: self.end,
                     remaining: self.remaining - 1,
+                    yielded: number_behind(self.yielded),
                 },
             ),
             UsizeAnswer::Refused(n) => FuncStep::Refused(n, self),
@@ -158,10 +167,12 @@ impl VarCursor {
         match record_at(s, pos, self.end, self.remaining, VarRecord::BASE_SIZE) {
             UsizeAnswer::Value(len) => VarStep::Record(
                 VarRecord { at: pos, len },
+                self.yielded,
                 VarCursor {
                     pos: pos + len,
                     end: self.end,
                     remaining: self.remaining - 1,
+                    yielded: number_behind(self.yielded),
                 },
             ),
             UsizeAnswer::Refused(n) => VarStep::Refused(n, self),
@@ -187,10 +198,12 @@ impl ParamCursor {
                     at: place.at,
                     len: place.len,
                 },
+                self.yielded,
                 ParamCursor {
                     pos: pos + ParameterInfo::SIZE,
                     end: self.end,
                     remaining: self.remaining - 1,
+                    yielded: number_behind(self.yielded),
                 },
             ),
             PlaceAnswer::Refused(n) => ParamStep::Refused(n, self),
@@ -203,6 +216,17 @@ impl ParamCursor {
     {
         self.remaining
     }
+}
+
+// How many records a cursor has yielded, once it has yielded one more than `yielded`: it stops at the largest number. It serves
+// every cursor.
+pub fn number_behind(yielded: u64) -> u64
+    ensures { λ r. ⌜ r ≡ numberOf (yielded + 1) ⌝ }
+{
+    if yielded == LARGEST {
+        return LARGEST;
+    }
+    yielded + 1
 }
 
 // The length of the record at `pos`: the one test of the records of a block.
@@ -247,7 +271,7 @@ pub fn fixed_at(s: &[u8], pos: usize, end: usize, size: usize) -> PlaceAnswer
 }
 
 fn param_at(s: &[u8], cursor: ParamCursor) -> PlaceAnswer
-    ensures { λ r. ⌜ toldPlace r ≡ lent (now (s .entry)) (paramAt (now (s .entry)) cursor) ⌝ }
+    ensures { λ r. ⌜ toldPlace r ≡ lent (now (s .entry)) (paramAt (now (s .entry)) (overParams .stands cursor)) ⌝ }
 {
     if LIMIT < s.len() {
         return PlaceAnswer::Refused(1);
@@ -282,11 +306,13 @@ fn func_cursor(s: &[u8], memoffset: u32, count: u16) -> FuncCursor
             pos: at as usize + 4,
             end: at as usize + 4 + size as usize,
             remaining: count as usize,
+            yielded: 0,
         },
         Block::Nothing => FuncCursor {
             pos: 0,
             end: 0,
             remaining: 0,
+            yielded: 0,
         },
     }
 }
@@ -307,6 +333,7 @@ fn var_cursor(s: &[u8], memoffset: u32, c: Counts) -> VarCursor
             pos: 0,
             end: 0,
             remaining: 0,
+            yielded: 0,
         },
     }
 }
@@ -319,11 +346,13 @@ fn vars_from(start: Skipped, end: usize, count: u16) -> VarCursor
             pos,
             end,
             remaining: count as usize,
+            yielded: 0,
         },
         Skipped::Nothing => VarCursor {
             pos: 0,
             end: 0,
             remaining: 0,
+            yielded: 0,
         },
     }
 }
@@ -359,11 +388,13 @@ fn param_cursor(place: Place, count: u16) -> ParamCursor
             pos: 0,
             end: 0,
             remaining: 0,
+            yielded: 0,
         };
     }
     ParamCursor {
         pos: place.at + (len - size),
         end: place.at + len,
         remaining: count as usize,
+        yielded: 0,
     }
 }

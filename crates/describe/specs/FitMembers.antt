@@ -78,13 +78,13 @@ params-remaining r n h =
     cond-elim (λ (c : ParamCursor). c .remaining < 256 ^ 2) (ltb (r .len) (sizeOf parameterInfo * n)) _ _ (λ _. lit< tt) (λ _. h)
 
 module _ (s : List ℕ) where
-  funcs-short : (ti : TypeInfoEntry) → IfValue (λ c. c .remaining < 256 ^ 2) (funcsOf s ti)
+  pub funcs-short : (ti : TypeInfoEntry) → IfValue (λ c. c .remaining < 256 ^ 2) (funcsOf s ti)
   funcs-short ti =
       answers-bind (anything (ofTypeInfo "memoffset" s ti)) (λ m _.
       answers-map (λ c. funcCursor (c .funcs) (blockWith s m (c .funcs))) (counts-short s ti) (λ c h.
       func-remaining (c .funcs) (blockWith s m (c .funcs)) (h .0)))
 
-  vars-short : (ti : TypeInfoEntry) → IfValue (λ c. c .remaining < 256 ^ 2) (varsOf s ti)
+  pub vars-short : (ti : TypeInfoEntry) → IfValue (λ c. c .remaining < 256 ^ 2) (varsOf s ti)
   vars-short ti =
       answers-bind (anything (ofTypeInfo "memoffset" s ti)) (λ m _.
       answers-map (λ c. varCursor s c (blockWith s m (c .vars))) (counts-short s ti) (λ c h.
@@ -96,7 +96,7 @@ module _ (s : List ℕ) where
       (answers-map {Q = λ z. atLeastZero z < 256 ^ 2} (toZ w16) (anything (field funcRecord "nrargs" s at len)) (λ n _. positive-short n))
       (λ z h. h)
 
-  params-short : (f : FuncRecord) → IfValue (λ c. c .remaining < 256 ^ 2) (paramsOf s f)
+  pub params-short : (f : FuncRecord) → IfValue (λ c. c .remaining < 256 ^ 2) (paramsOf s f)
   params-short f =
       answers-bind (anything (recordPlace (sizeOf funcRecord) s (f .at) (f .len))) (λ r _.
       answers-map (paramCursor r) (arguments-short (f .at) (f .len)) (λ n h. params-remaining r n h))

@@ -10,8 +10,7 @@ use Rattle.records.specs.declared.typeinfo.TypeInfoEntry.{TypeInfoEntry}
 use Rattle.records.specs.Layout.{typeInfoBase, refRecord}
 use Rattle.typelib.specs.declared.TypeLib.{TypeLib}
 use Rattle.typelib.specs.Header.{typeCount}
-use Rattle.impltypes.specs.declared.ImplTypeCursor.{ImplTypeCursor}
-use Rattle.impltypes.specs.Chain.{implTypesOf, recordsOf}
+use Rattle.impltypes.specs.Chain.{ChainAt, overImplTypes, implTypesOf, recordsFrom}
 use Rattle.impltypes.specs.ChainLaws.{records-length, walk-took, walk-most}
 use Rattle.typelib.specs.TypeInfos.{typeinfoOf}
 use Rattle.description.specs.Format.{Fits, Each}
@@ -34,9 +33,9 @@ each-map P f h [] = tt
 each-map P f h (x ∷ xs) = (h x, each-map P f h xs)
 
 -- the walk's records are fewer than four bytes count
-chain-short : (s : List ℕ) (c : ImplTypeCursor) → IfValue (λ ps. length ps < 256 ^ 4) (recordsOf s c)
+chain-short : (s : List ℕ) (c : ChainAt) → IfValue (λ ps. length ps < 256 ^ 4) (recordsFrom s c)
 chain-short s c =
-    told (recordsOf s c) (λ ps e.
+    told (recordsFrom s c) (λ ps e.
     let w = records-length s c ps e in
     omega (arith, walk-most s c (length ps) w, walk-took s c (length ps) .0 w .0))
 
@@ -62,7 +61,7 @@ module _ (s : List ℕ) (octets : Octets s) (lib : TypeLib) (e : Edition) (room 
   unfolding implTypesAt
   implTypes-fit ti =
       answers-bind (anything (implTypesOf s lib ti)) (λ c _.
-      answers-map (list.map (implTypeAt s lib)) (chain-short s c) (λ ps h.
+      answers-map (list.map (implTypeAt s lib)) (chain-short s (overImplTypes .stands c)) (λ ps h.
       list-fits (implType e n) u32 (list.map (implTypeAt s lib) ps)
       (rw (length-map ps (implTypeAt s lib)) h) (each-map (Fits (implType e n)) (implTypeAt s lib) implType-fits ps)))
 

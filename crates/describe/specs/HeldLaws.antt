@@ -18,8 +18,7 @@ use Rattle.typelib.specs.Header.{header, parseOf}
 use Rattle.typelib.specs.Tables.{lent, segmentOf, placeIn, tablePlace}
 use Rattle.typelib.specs.TableLaws.{found as found-place}
 use Rattle.cursors.specs.CursorLaws.{lent-value}
-use Rattle.impltypes.specs.declared.ImplTypeCursor.{ImplTypeCursor}
-use Rattle.impltypes.specs.Chain.{placeAt, recordsOf}
+use Rattle.impltypes.specs.Chain.{ChainAt, placeAt, recordsFrom}
 use Rattle.impltypes.specs.ChainLaws.{place-is, inside, walk-took, records}
 use Rattle.typelib.specs.Tabulate.{tabulate}
 use Rattle.description.specs.Format.{Each}
@@ -123,10 +122,10 @@ each-tabulate P f zero h = tt
 each-tabulate P f (suc n) h =
     each-append P (tabulate f n) (f n ∷ []) (each-tabulate P f n (λ k l. h k (omega arith))) (h n (omega arith), tt)
 
-module _ (s : List ℕ) (c : ImplTypeCursor) where
-  pub chain-held : IfValue (Each (HeldAt s (sizeOf refRecord))) (recordsOf s c)
+module _ (s : List ℕ) (c : ChainAt) where
+  pub chain-held : IfValue (Each (HeldAt s (sizeOf refRecord))) (recordsFrom s c)
   chain-held =
-      told (recordsOf s c) (λ ps e.
+      told (recordsFrom s c) (λ ps e.
       let r = records s c ps e in
       let w = walk-took s c (r .n) .0 (r .walked) in
       rw (r .are) (each-tabulate (HeldAt s (sizeOf refRecord)) (placeAt s c) (r .n) (λ k l.

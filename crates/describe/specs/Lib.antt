@@ -16,6 +16,7 @@ pub mod FitConstants
 pub mod FitReferences
 pub mod FitTrees
 pub mod FitMembers
+pub mod MemberNumbers
 pub mod FitTypes
 pub mod Fit
 pub mod Demand3

@@ -18,7 +18,8 @@ use Rattle.typelib.specs.declared.TypeLib.{TypeLib}
 use Rattle.cursors.specs.declared.iterators.FuncCursor.{FuncCursor}
 use Rattle.cursors.specs.declared.iterators.VarCursor.{VarCursor}
 use Rattle.cursors.specs.declared.iterators.ParamCursor.{ParamCursor}
-use Rattle.cursors.specs.Cursors.{Step, yielded, ended, funcStep, funcsOf, varStep, varsOf, paramStep, paramsOf}
+use Rattle.cursors.specs.Numbers.{Step, yielded, ended}
+use Rattle.cursors.specs.Cursors.{funcStep, funcsOf, varStep, varsOf, paramStep, paramsOf}
 use Rattle.typelib.specs.Names.{nameBytes}
 use Rattle.typelib.specs.TypeInfos.{funcMemid, varMemid, funcNameOffset, varNameOffset}
 use Rattle.description.specs.Description.{Bytes, Tree, Constant, Parameter, Function, VariableValue, isConstant, Variable}
@@ -29,12 +30,12 @@ use Rattle.describe.specs.Constants.{constantOf}
 -- ---- the records that a cursor yields
 
 -- a record, and those behind it by `more`
-abbrev pub onward : {C : Type 0} → (C → List Place) → Step C → List Place
-onward more (yielded p c) = p ∷ more c
+abbrev pub onward : {C : Type 0} → (C → List Place) → Step Place C → List Place
+onward more (yielded p number c) = p ∷ more c
 onward more (ended n c) = []
 
 -- at most so many, from the cursor on
-unfoldable pub yields : {C : Type 0} → (C → Step C) → ℕ → C → List Place
+unfoldable pub yields : {C : Type 0} → (C → Step Place C) → ℕ → C → List Place
 yields step zero c = []
 yields step (suc n) c = onward (yields step n) (step c)
 

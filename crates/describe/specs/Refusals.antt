@@ -23,8 +23,7 @@ use Rattle.records.specs.Layout.{sizeOf, typeInfoBase, arrayDesc, parameterInfo
 use Rattle.records.specs.Record.{limit}
 use Rattle.records.specs.RecordLaws.{Holds}
 use Rattle.typelib.specs.declared.TypeLib.{TypeLib}
-use Rattle.impltypes.specs.declared.ImplTypeCursor.{ImplTypeCursor}
-use Rattle.impltypes.specs.Chain.{referenceTable, implTypesOf, returnsAt, taken, walkOf, placeAt, recordsOf}
+use Rattle.impltypes.specs.Chain.{ChainAt, overImplTypes, referenceTable, implTypesOf, returnsAt, taken, walkFrom, placeAt, recordsFrom}
 use Rattle.constants.specs.Constants.{among}
 use Rattle.cursors.specs.Cursors.{funcsOf, varsOf, paramsOf}
 use Rattle.typelib.specs.Descriptors.{typeDescription}
@@ -119,8 +118,8 @@ module _ (s : List ℕ) (lib : TypeLib) where
 
   -- ---- the walk refuses with 10
 
-  walk-sound : (c : ImplTypeCursor) → Sound (recordsOf s c)
-  unfolding recordsOf walkOf
+  walk-sound : (c : ChainAt) → Sound (recordsFrom s c)
+  unfolding recordsFrom walkFrom
   walk-sound c =
       answers-map (tabulate (placeAt s c))
       (answers-lent s _ tt (λ _. cond-elim Sound (returnsAt s c (taken s c)) _ _ (λ _. refuses tt) (λ _. gives tt)))
@@ -132,7 +131,7 @@ module _ (s : List ℕ) (lib : TypeLib) where
 
   start-sound : (ti : TypeInfoEntry) → Held ti → Sound (implTypesOf s lib ti)
   start-sound ti h =
-      answers-map (λ offset. record { table = referenceTable lib; next = offset })
+      answers-map (λ offset. record { table = referenceTable lib; next = offset; yielded = 0 })
       (subst Sound (sym (field-is typeInfoBase "datatype1" s (ti .at) (ti .len) h)) (gives tt)) (λ _ _. tt)
 
   base-sound : (ti : TypeInfoEntry) → Held ti → (h : BaseShape) → Sound (baseOf s lib ti h)
@@ -140,7 +139,7 @@ module _ (s : List ℕ) (lib : TypeLib) where
   base-sound ti k absent = gives tt
   base-sound ti k parent = gives tt
   base-sound ti k implTypes =
-      answers-bind (start-sound ti k) (λ c _. answers-map (list.map (implTypeAt s lib)) (walk-sound c) (λ _ _. tt))
+      answers-bind (start-sound ti k) (λ c _. answers-map (list.map (implTypeAt s lib)) (walk-sound (overImplTypes .stands c)) (λ _ _. tt))
   base-sound ti k aliased = nested-sound 32 (fieldOf typeInfoBase "datatype1" s (ti .at))
 
   -- ---- a typeinfo is held, or refused with 6, 7 or 8

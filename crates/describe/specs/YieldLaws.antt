@@ -2,7 +2,7 @@
 -- so that `field-is` of `FieldLaws` says their fields. Assumes nothing.
 use mathlib.Core.Path.{_≡_, refl, _∙_, ap}
 use mathlib.Core.List.{List, [], _∷_}
-use Prim.Native.Nat.{ℕ, zero, suc, _+_, _-_, _≤_, _<_}
+use Prim.Native.Nat.{ℕ, zero, suc, _+_, _≤_}
 use native.Mathlib.Omega.{arith}
 use lib.Dec.{eqb}
 use lib.ListN.{length}
@@ -16,50 +16,48 @@ use Rattle.cursors.specs.declared.iterators.VarCursor.{VarCursor}
 use Rattle.cursors.specs.declared.iterators.ParamCursor.{ParamCursor}
 use Rattle.typelib.specs.Tables.{lent}
 use Rattle.typelib.specs.TableLaws.{lent-fits}
-use Rattle.cursors.specs.Cursors.{Step, yielded, ended, stepBy, recordAt, fixedAt, funcStep, varStep, paramAt, paramStep}
-use Rattle.cursors.specs.CursorLaws.{recorded, fixed, param, lent-value}
+use Rattle.cursors.specs.Numbers.{item, Step, yielded, ended}
+use Rattle.cursors.specs.Cursors.{BlockAt, overFuncs, overVars, overParams, recordAt, blockNext, fixedAt, funcStep, varStep, paramAt, paramNext, paramStep}
+use Rattle.cursors.specs.CursorLaws.{recorded, fixed, lent-value}
+use Rattle.cursors.specs.NumberLaws.{Lessens, by-item, step-yields, func-takes, var-takes, param-takes}
 use Rattle.description.specs.Format.{Each}
 use Rattle.describe.specs.Members.{onward, yields, funcRecords, varRecords, paramRecords}
 
 -- ---- any step
 
-module _ {C : Type 0} (step : C → Step C) where
+module _ {C : Type 0} (step : C → Step Place C) where
   pub yields-most : (n : ℕ) (c : C) → length (yields step n c) ≤ n
   unfolding yields
   yields-most zero c = omega arith
   yields-most (suc n) c = by (step c) (yields-most n)
     where
-      by : (t : Step C) → ((d : C) → length (yields step n d) ≤ n) → length (onward (yields step n) t) ≤ suc n
-      by (yielded p d) ih = omega (arith, ih d)
+      by : (t : Step Place C) → ((d : C) → length (yields step n d) ≤ n) → length (onward (yields step n) t) ≤ suc n
+      by (yielded p k d) ih = omega (arith, ih d)
       by (ended m d) ih = omega arith
 
-  pub yields-each : (Q : Place → Type 0) → ((c d : C) (p : Place) → yielded p d ≡ step c → Q p) → (n : ℕ) (c : C) → Each Q (yields step n c)
+  pub yields-each : (Q : Place → Type 0) → ((c d : C) (p : Place) (k : ℕ) → yielded p k d ≡ step c → Q p) → (n : ℕ) (c : C) → Each Q (yields step n c)
   unfolding yields
   yields-each Q h zero c = tt
   yields-each Q h (suc n) c = by (step c) refl (yields-each Q h n)
     where
-      by : (t : Step C) → t ≡ step c → ((d : C) → Each Q (yields step n d)) → Each Q (onward (yields step n) t)
-      by (yielded p d) e ih = (h c d p e, ih d)
+      by : (t : Step Place C) → t ≡ step c → ((d : C) → Each Q (yields step n d)) → Each Q (onward (yields step n) t)
+      by (yielded p k d) e ih = (h c d p k e, ih d)
       by (ended m d) e ih = tt
 
 -- A step that yields only where something is left, and leaves one less, yields as many records as are left, or fewer.
-pub record Lessens {C : Type 0} (left : C → ℕ) (c d : C) : Type 0 where
-  pub some : 0 < left c
-  pub fewer : left d ≡ left c - 1
-
-module _ {C : Type 0} (step : C → Step C) (left : C → ℕ) (lessens : (c d : C) (p : Place) → yielded p d ≡ step c → Lessens left c d) where
+module _ {C : Type 0} (step : C → Step Place C) (left : C → ℕ) (lessens : (c d : C) (p : Place) (k : ℕ) → yielded p k d ≡ step c → Lessens left c d) where
   one-more : (n : ℕ) (c : C) → left c ≤ n → yields step (suc n) c ≡ yields step n c
   unfolding yields
   one-more zero c h = by (step c) refl
     where
-      by : (t : Step C) → t ≡ step c → onward (yields step 0) t ≡ []
-      by (yielded p d) e = absurd (omega (arith, lessens c d p e .some))
+      by : (t : Step Place C) → t ≡ step c → onward (yields step 0) t ≡ []
+      by (yielded p k d) e = absurd (omega (arith, lessens c d p k e .some))
       by (ended m d) e = refl
   one-more (suc n) c h = by (step c) refl (one-more n)
     where
-      by : (t : Step C) → t ≡ step c → ((d : C) → left d ≤ n → yields step (suc n) d ≡ yields step n d)
+      by : (t : Step Place C) → t ≡ step c → ((d : C) → left d ≤ n → yields step (suc n) d ≡ yields step n d)
           → onward (yields step (suc n)) t ≡ onward (yields step n) t
-      by (yielded p d) e ih = let l = lessens c d p e in ap (λ ps. p ∷ ps) (ih d (omega (arith, l .some, l .fewer)))
+      by (yielded p k d) e ih = let l = lessens c d p k e in ap (λ ps. p ∷ ps) (ih d (omega (arith, l .some, l .fewer)))
       by (ended m d) e ih = refl
 
   pub yields-all : (k : ℕ) (c : C) → yields step (left c + k) c ≡ yields step (left c) c
@@ -70,78 +68,75 @@ module _ {C : Type 0} (step : C → Step C) (left : C → ℕ) (lessens : (c d :
 
 -- ---- the steps of functions, variables and parameters
 
--- a step that goes on from what was found
-stepped : {A C : Type 0} (Q : Place → C → Type 0) (c : C) (place : A → Place) (next : A → C) (a : Answer A)
-    → ((x : A) → value x ≡ a → Q (place x) (next x)) → (p : Place) (d : C) → yielded p d ≡ stepBy c (λ x. yielded (place x) (next x)) a → Q p d
-stepped Q c place next (value x) h p d e =
-    let q : p ≡ place x = cc in
-    let r : d ≡ next x = cc in
-    rw (q, r) (h x refl)
-stepped Q c place next (refused n) h p d e = absurd (let z : _≡_ {A = ℕ} 0 1 = cc in omega arith)
-
 -- the record is held, and one less is left
 pub record Yielded {C : Type 0} (s : List ℕ) (size : ℕ) (left : C → ℕ) (c d : C) (p : Place) : Type 0 where
   pub lessens : Lessens left c d
   pub holds : Holds s (p .at) (p .len) size
 
 module _ (s : List ℕ) where
-  sized : (pos end remaining least n : ℕ) → value n ≡ lent s (recordAt s pos end remaining least) → (0 < remaining) × Holds s pos n least
-  sized pos end remaining least n e =
-      let r = recorded s pos end remaining least n e in
-      (r .some, record { few = lent-value s n (recordAt s pos end remaining least) e .few; whole = r .whole; inside = r .within })
-
-  param-holds : (c : ParamCursor) (p : Place) → value p ≡ lent s (paramAt s c) → Holds s (p .at) (p .len) (sizeOf parameterInfo)
+  param-holds : (d : BlockAt) (p : Place) → value p ≡ lent s (paramAt s d) → Holds s (p .at) (p .len) (sizeOf parameterInfo)
   unfolding paramAt
-  param-holds c p e =
-      let v = lent-value s p (paramAt s c) e in
-      cond-elim (λ (a : Answer Place). value p ≡ a → Holds s (p .at) (p .len) 12) (eqb (c .remaining) 0) _ _
+  param-holds d p e =
+      let v = lent-value s p (paramAt s d) e in
+      cond-elim (λ (a : Answer Place). value p ≡ a → Holds s (p .at) (p .len) 12) (eqb (d .remaining) 0) _ _
       (λ _ f. absurd (let z : _≡_ {A = ℕ} 0 1 = cc in omega arith))
       (λ _ f.
-      let x = fixed s (c .pos) (c .end) 12 p (lent-fits s (fixedAt s (c .pos) (c .end) 12) (value p) (v .few) f) in
+      let x = fixed s (d .pos) (d .end) 12 p (lent-fits s (fixedAt s (d .pos) (d .end) 12) (value p) (v .few) f) in
       record { few = v .few; whole = omega (arith, x .whole); inside = omega (arith, x .start, x .whole, x .inside) })
       (v .is)
 
-  pub func-yielded : (c d : FuncCursor) (p : Place) → yielded p d ≡ funcStep s c → Yielded s (sizeOf funcRecord) (λ x. x .remaining) c d p
-  func-yielded c d p =
-      stepped (λ q e. Yielded s (sizeOf funcRecord) (λ x. x .remaining) c e q) c _ _ (lent s (recordAt s (c .pos) (c .end) (c .remaining) 24)) (λ n e.
-      let r = sized (c .pos) (c .end) (c .remaining) 24 n e in
-      record { lessens = record { some = r .0; fewer = refl }; holds = r .1 }) p d
+  block-held : (least : ℕ) (d e : BlockAt) (p : Place) → item p e ≡ blockNext least s d → Holds s (p .at) (p .len) least
+  block-held least d e p =
+      by-item (λ q _. Holds s (q .at) (q .len) least) d _ _ (lent s (recordAt s (d .pos) (d .end) (d .remaining) least)) (λ n h.
+      let r = recorded s (d .pos) (d .end) (d .remaining) least n h in
+      record { few = lent-value s n _ h .few; whole = r .whole; inside = r .within }) p e
 
-  pub var-yielded : (c d : VarCursor) (p : Place) → yielded p d ≡ varStep s c → Yielded s (sizeOf varRecord) (λ x. x .remaining) c d p
-  var-yielded c d p =
-      stepped (λ q e. Yielded s (sizeOf varRecord) (λ x. x .remaining) c e q) c _ _ (lent s (recordAt s (c .pos) (c .end) (c .remaining) 20)) (λ n e.
-      let r = sized (c .pos) (c .end) (c .remaining) 20 n e in
-      record { lessens = record { some = r .0; fewer = refl }; holds = r .1 }) p d
+  pub func-yielded : (c d : FuncCursor) (p : Place) (k : ℕ) → yielded p k d ≡ funcStep s c → Yielded s (sizeOf funcRecord) (λ x. x .remaining) c d p
+  func-yielded c d p k e =
+      record {
+        lessens = func-takes .takes {s = s} e;
+        holds = block-held 24 (overFuncs .stands c) (overFuncs .stands d) p (step-yields overFuncs (blockNext 24 s) c d p k e .found);
+      }
 
-  pub param-yielded : (c d : ParamCursor) (p : Place) → yielded p d ≡ paramStep s c → Yielded s (sizeOf parameterInfo) (λ x. x .remaining) c d p
-  param-yielded c d p =
-      stepped (λ q e. Yielded s (sizeOf parameterInfo) (λ x. x .remaining) c e q) c _ _ (lent s (paramAt s c)) (λ q e.
-      record { lessens = record { some = param s c q e .some; fewer = refl }; holds = param-holds c q e }) p d
+  pub var-yielded : (c d : VarCursor) (p : Place) (k : ℕ) → yielded p k d ≡ varStep s c → Yielded s (sizeOf varRecord) (λ x. x .remaining) c d p
+  var-yielded c d p k e =
+      record {
+        lessens = var-takes .takes {s = s} e;
+        holds = block-held 20 (overVars .stands c) (overVars .stands d) p (step-yields overVars (blockNext 20 s) c d p k e .found);
+      }
+
+  pub param-yielded : (c d : ParamCursor) (p : Place) (k : ℕ) → yielded p k d ≡ paramStep s c → Yielded s (sizeOf parameterInfo) (λ x. x .remaining) c d p
+  param-yielded c d p k e =
+      record {
+        lessens = param-takes .takes {s = s} e;
+        holds = by-item (λ q _. Holds s (q .at) (q .len) 12) (overParams .stands c) _ _ (lent s (paramAt s (overParams .stands c)))
+            (param-holds (overParams .stands c)) p (overParams .stands d) (step-yields overParams (paramNext s) c d p k e .found);
+      }
 
   -- ---- all records are yielded
 
   pub funcs-all : (k : ℕ) (c : FuncCursor) → yields (funcStep s) (c .remaining + k) c ≡ yields (funcStep s) (c .remaining) c
-  funcs-all = yields-all (funcStep s) (λ c. c .remaining) (λ c d p e. func-yielded c d p e .lessens)
+  funcs-all = yields-all (funcStep s) (λ c. c .remaining) (λ c d p k e. func-yielded c d p k e .lessens)
 
   pub vars-all : (k : ℕ) (c : VarCursor) → yields (varStep s) (c .remaining + k) c ≡ yields (varStep s) (c .remaining) c
-  vars-all = yields-all (varStep s) (λ c. c .remaining) (λ c d p e. var-yielded c d p e .lessens)
+  vars-all = yields-all (varStep s) (λ c. c .remaining) (λ c d p k e. var-yielded c d p k e .lessens)
 
   pub params-all : (k : ℕ) (c : ParamCursor) → yields (paramStep s) (c .remaining + k) c ≡ yields (paramStep s) (c .remaining) c
-  params-all = yields-all (paramStep s) (λ c. c .remaining) (λ c d p e. param-yielded c d p e .lessens)
+  params-all = yields-all (paramStep s) (λ c. c .remaining) (λ c d p k e. param-yielded c d p k e .lessens)
 
   -- ---- and each is held
 
   pub funcs-held : (a : Answer FuncCursor) → Each (λ p. Holds s (p .at) (p .len) (sizeOf funcRecord)) (funcRecords s a)
   unfolding funcRecords
-  funcs-held (value c) = yields-each (funcStep s) _ (λ c d p e. func-yielded c d p e .holds) (c .remaining) c
+  funcs-held (value c) = yields-each (funcStep s) _ (λ c d p k e. func-yielded c d p k e .holds) (c .remaining) c
   funcs-held (refused n) = tt
 
   pub vars-held : (a : Answer VarCursor) → Each (λ p. Holds s (p .at) (p .len) (sizeOf varRecord)) (varRecords s a)
   unfolding varRecords
-  vars-held (value c) = yields-each (varStep s) _ (λ c d p e. var-yielded c d p e .holds) (c .remaining) c
+  vars-held (value c) = yields-each (varStep s) _ (λ c d p k e. var-yielded c d p k e .holds) (c .remaining) c
   vars-held (refused n) = tt
 
   pub params-held : (a : Answer ParamCursor) → Each (λ p. Holds s (p .at) (p .len) (sizeOf parameterInfo)) (paramRecords s a)
   unfolding paramRecords
-  params-held (value c) = yields-each (paramStep s) _ (λ c d p e. param-yielded c d p e .holds) (c .remaining) c
+  params-held (value c) = yields-each (paramStep s) _ (λ c d p k e. param-yielded c d p k e .holds) (c .remaining) c
   params-held (refused n) = tt

@@ -22,9 +22,11 @@ use Rattle.impltypes.specs.Search.{apart, Some, some-below, none-below, 
 use Rattle.typelib.specs.Tables.{lent, negative, segmentOf, inTable, placeIn, tableOf}
 use Rattle.typelib.specs.TableLaws.{lent-fits, in-table, found-in}
 use Rattle.typelib.specs.Tabulate.{tabulate, length-tabulate, getD-tabulate}
-use Rattle.cursors.specs.Cursors.{yielded, ended}
-use Rattle.impltypes.specs.Chain.{referenceTable, implTypesOf, referenceAt, onext, implTypeStepFrom, implTypeStep, isRefused}
-use Rattle.impltypes.specs.Chain.{offsetAt, endsAt, returnsAt, taken, walkOf, placeAt, recordsOf, cursorAt, Passes, Length, Circle}
+use Rattle.cursors.specs.Numbers.{largest, numberOf, item, stop, yielded, ended}
+use Rattle.cursors.specs.NumberLaws.{number-most, number-next, without, as-before, by-stops, step-found}
+use Rattle.cursors.specs.NumberLaws.{again as ends-again, step-none as none}
+use Rattle.impltypes.specs.Chain.{ChainAt, overImplTypes, referenceTable, implTypesOf, referenceAt, onext, implTypeNextFrom, implTypeNext, implTypeStep, isRefused}
+use Rattle.impltypes.specs.Chain.{offsetAt, endsAt, returnsAt, taken, walkFrom, placeAt, recordsFrom, standsAt, Passes, Length, Circle, walkOf, cursorAt}
 
 -- ---- places in a table
 
@@ -53,41 +55,48 @@ place-empty s table offset z =
     cond-elim P (negative offset) _ _ (λ _. refl) (λ _.
     cond-elim P (inTable s table (offset + 16)) _ _ (λ h. absurd (omega (arith, z, in-table s table (offset + 16) h .segment))) (λ _. refl))
 
-ends-empty : (s : List ℕ) (c : ImplTypeCursor) → c .table .len ≡ 0 → (k : ℕ) → endsAt s c k ≡ true
+ends-empty : (s : List ℕ) (c : ChainAt) → c .table .len ≡ 0 → (k : ℕ) → endsAt s c k ≡ true
 unfolding endsAt
 ends-empty s c z k = place-empty s (c .table) (offsetAt s c k) z
 
 -- ---- where a chain starts
 
-pub types-value : (s : List ℕ) (lib : TypeLib) (ti : TypeInfoEntry) (offset : ℕ) (table : Place) → value offset ≡ field typeInfoBase "datatype1" s (ti .at) (ti .len) → table ≡ referenceTable lib → value (record { table = table; next = offset }) ≡ implTypesOf s lib ti
+pub types-value : (s : List ℕ) (lib : TypeLib) (ti : TypeInfoEntry) (offset : ℕ) (table : Place) → value offset ≡ field typeInfoBase "datatype1" s (ti .at) (ti .len) → table ≡ referenceTable lib → value (record { table = table; next = offset; yielded = 0 }) ≡ implTypesOf s lib ti
 types-value s lib ti offset table e h =
-    ap (λ (t : Place). value (record { table = t; next = offset })) h
-    ∙ ap (map (λ (x : ℕ). record { table = referenceTable lib; next = x })) e
+    ap (λ (t : Place). value (record { table = t; next = offset; yielded = 0 })) h
+    ∙ ap (map (λ (x : ℕ). record { table = referenceTable lib; next = x; yielded = 0 })) e
 
 -- ---- one step
 
-module _ (s : List ℕ) (c : ImplTypeCursor) where
-  pub step-is : (a : Answer Place) → a ≡ lent s (referenceAt s (c .table) (c .next)) → implTypeStepFrom s c a ≡ implTypeStep s c
-  unfolding implTypeStep
-  step-is a e = ap (implTypeStepFrom s c) e
+module _ (s : List ℕ) where
+  pub next-is : (d : ChainAt) (a : Answer Place) → a ≡ lent s (referenceAt s (d .table) (d .next)) → implTypeNextFrom s d a ≡ implTypeNext s d
+  unfolding implTypeNext
+  next-is d a e = ap (implTypeNextFrom s d) e
 
-  pub step-record : (p : Place) (next : ℕ) → length s ≤ limit → value p ≡ referenceAt s (c .table) (c .next) → next ≡ onext s (p .at) → yielded p (record { table = c .table; next = next }) ≡ implTypeStep s c
-  step-record p next h e q =
-      ap (λ (x : ℕ). yielded p (record { table = c .table; next = x })) q
-      ∙ step-is (value p) (lent-fits s _ (value p) h e)
+  next-stays : (d : ChainAt) (n : ℕ) (e : ChainAt) → stop n e ≡ implTypeNext s d → e ≡ d
+  unfolding implTypeNext
+  next-stays d = by-stops d _ _ (lent s (referenceAt s (d .table) (d .next)))
 
-  -- A CURSOR THAT HAS YIELDED NOTHING came back unchanged, so it yields nothing again over the same bytes
-  pub step-stays : (n : ℕ) (d : ImplTypeCursor) → ended n d ≡ implTypeStep s c → (d ≡ c) × (ended n d ≡ implTypeStep s d)
-  unfolding implTypeStep
-  step-stays n d = by (lent s (referenceAt s (c .table) (c .next))) refl
-    where
-      by : (a : Answer Place) → lent s (referenceAt s (c .table) (c .next)) ≡ a → ended n d ≡ implTypeStepFrom s c a → (d ≡ c) × (ended n d ≡ implTypeStep s d)
-      by (value p) e h = let z : _≡_ {A = ℕ} 0 1 = cc in absurd (omega arith)
-      by (refused m) e h =
-          let q : d ≡ c = cc in
-          (q, h ∙ sym (ap (implTypeStepFrom s c) e) ∙ ap (implTypeStep s) (sym q))
+  module _ (c : ImplTypeCursor) where
+    pub step-none : (n : ℕ) → refused n ≡ lent s (referenceAt s (c .table) (c .next)) → ended n c ≡ implTypeStep s c
+    step-none n e = none overImplTypes (implTypeNext s) c n (next-is (overImplTypes .stands c) (refused n) e)
 
-module _ (s : List ℕ) (c : ImplTypeCursor) where
+    pub step-record : (p : Place) (next number : ℕ) → length s ≤ limit → value p ≡ referenceAt s (c .table) (c .next) → next ≡ onext s (p .at)
+        → number ≡ numberOf (c .yielded + 1) → yielded p (c .yielded) (record { table = c .table; next = next; yielded = number }) ≡ implTypeStep s c
+    step-record p next number h e q =
+        step-found overImplTypes (implTypeNext s) c p (record { table = c .table; next = next }) number
+        (ap (λ (x : ℕ). item p (record { table = c .table; next = x })) q
+        ∙ next-is (overImplTypes .stands c) (value p) (lent-fits s _ (value p) h e))
+
+    -- A CURSOR THAT HAS YIELDED NOTHING came back unchanged, its count too, so it yields nothing again over the same bytes
+    pub implType-again : (d : ImplTypeCursor) (m : ℕ) → ended m d ≡ implTypeStep s c → (d ≡ c) × (ended m d ≡ implTypeStep s d)
+    implType-again d m = ends-again overImplTypes (implTypeNext s) c d m (next-stays (overImplTypes .stands c))
+
+    -- RECORDS AND THEIR ORDER are those of before: the step without its number
+    pub implType-as-before : without (overImplTypes .stands) (implTypeStep s c) ≡ implTypeNext s (overImplTypes .stands c)
+    implType-as-before = as-before overImplTypes (implTypeNext s) c
+
+module _ (s : List ℕ) (c : ChainAt) where
   -- ---- the chain
 
   pub passes-none : Passes s c 0
@@ -219,8 +228,8 @@ module _ (s : List ℕ) (c : ImplTypeCursor) where
 
   -- ---- what the walk says
 
-  walk-elim : (P : Answer ℕ → Type 0) → (limit < length s → P (refused 1)) → (length s ≤ limit → (n : ℕ) → Length s c n → P (value n)) → (length s ≤ limit → Circle s c → P (refused 10)) → P (walkOf s c)
-  unfolding walkOf lent
+  walk-elim : (P : Answer ℕ → Type 0) → (limit < length s → P (refused 1)) → (length s ≤ limit → (n : ℕ) → Length s c n → P (value n)) → (length s ≤ limit → Circle s c → P (refused 10)) → P (walkFrom s c)
+  unfolding walkFrom lent
   walk-elim P long f g =
       cond-elim P (ltb limit (length s)) _ _ (λ h. long (ltb-true limit (length s) h)) (λ h.
       cond-elim P (returnsAt s c (taken s c)) _ _
@@ -231,7 +240,7 @@ module _ (s : List ℕ) (c : ImplTypeCursor) where
   never p q e = apart (ap isRefused e ∙ q) p
 
   -- IT SAYS n exactly if the chain has n records
-  pub walk-took : (n : ℕ) → (value n ≡ walkOf s c) ↔ ((length s ≤ limit) × Length s c n)
+  pub walk-took : (n : ℕ) → (value n ≡ walkFrom s c) ↔ ((length s ≤ limit) × Length s c n)
   walk-took n = (
     walk-elim (λ a. value n ≡ a → (length s ≤ limit) × Length s c n)
         (λ _. never refl refl)
@@ -244,15 +253,15 @@ module _ (s : List ℕ) (c : ImplTypeCursor) where
   )
 
   -- a table with no bytes has no record
-  pub walk-empty : length s ≤ limit → c .table .len ≡ 0 → value 0 ≡ walkOf s c
+  pub walk-empty : length s ≤ limit → c .table .len ≡ 0 → value 0 ≡ walkFrom s c
   walk-empty h e = walk-took 0 .1 (h, record { passes = passes-none; ends = ends-empty s c e 0 })
 
   -- and then n is at most length - 15, and 0 under 16 bytes
-  pub walk-most : (n : ℕ) → value n ≡ walkOf s c → n ≤ length s - 15
+  pub walk-most : (n : ℕ) → value n ≡ walkFrom s c → n ≤ length s - 15
   walk-most n e = most n (walk-took n .0 e .1)
 
   -- IT REFUSES with 10 exactly if the chain returns to an offset already passed
-  pub walk-circle : (refused 10 ≡ walkOf s c) ↔ ((length s ≤ limit) × Circle s c)
+  pub walk-circle : (refused 10 ≡ walkFrom s c) ↔ ((length s ≤ limit) × Circle s c)
   walk-circle = (
     walk-elim (λ a. refused 10 ≡ a → (length s ≤ limit) × Circle s c)
         (λ _ e. let z : _≡_ {A = ℕ} 10 1 = cc in absurd (omega arith))
@@ -265,7 +274,7 @@ module _ (s : List ℕ) (c : ImplTypeCursor) where
   )
 
   -- and with 1 exactly if the bytes are over-long
-  pub walk-long : (refused 1 ≡ walkOf s c) ↔ (limit < length s)
+  pub walk-long : (refused 1 ≡ walkFrom s c) ↔ (limit < length s)
   walk-long = (
     walk-elim (λ a. refused 1 ≡ a → limit < length s)
         (λ h e. h)
@@ -281,25 +290,25 @@ module _ (s : List ℕ) (c : ImplTypeCursor) where
 
   pub record Records (l : List Place) : Type 0 where
     pub n : ℕ
-    pub walked : value n ≡ walkOf s c
+    pub walked : value n ≡ walkFrom s c
     pub are : l ≡ tabulate (placeAt s c) n
 
-  pub records : (l : List Place) → value l ≡ recordsOf s c → Records l
-  unfolding recordsOf
-  records l = by (walkOf s c) refl
+  pub records : (l : List Place) → value l ≡ recordsFrom s c → Records l
+  unfolding recordsFrom
+  records l = by (walkFrom s c) refl
     where
-      by : (a : Answer ℕ) → walkOf s c ≡ a → value l ≡ map (tabulate (placeAt s c)) a → Records l
+      by : (a : Answer ℕ) → walkFrom s c ≡ a → value l ≡ map (tabulate (placeAt s c)) a → Records l
       by (value n) h e = record { n = n; walked = sym h; are = cc }
       by (refused n) h e = let z : _≡_ {A = ℕ} 0 1 = cc in absurd (omega arith)
 
   -- they are as many as the walk says
-  pub records-length : (l : List Place) → value l ≡ recordsOf s c → value (length l) ≡ walkOf s c
+  pub records-length : (l : List Place) → value l ≡ recordsFrom s c → value (length l) ≡ walkFrom s c
   records-length l e =
       let t = records l e in
       ap value (ap length (t .are) ∙ length-tabulate (placeAt s c) (t .n)) ∙ t .walked
 
   -- and the k-th is that of the record at the k-th offset
-  pub records-place : (l : List Place) (k : ℕ) (d : Place) → value l ≡ recordsOf s c → k < length l → value (getD l k d) ≡ referenceAt s (c .table) (offsetAt s c k)
+  pub records-place : (l : List Place) (k : ℕ) (d : Place) → value l ≡ recordsFrom s c → k < length l → value (getD l k d) ≡ referenceAt s (c .table) (offsetAt s c k)
   records-place l k d e h =
       let t = records l e in
       let q : k < t .n = omega (arith, ap length (t .are), length-tabulate (placeAt s c) (t .n)) in
@@ -307,16 +316,11 @@ module _ (s : List ℕ) (c : ImplTypeCursor) where
       ∙ ap value (getD-tabulate (placeAt s c) (t .n) k d q)
       ∙ there k (walk-took (t .n) .0 (t .walked) .1 .passes k q)
 
-  -- ---- a cursor on the chain goes from its k-th offset to the next, and stays at its end
+  -- ---- a cursor on the chain goes from its k-th offset to the next
 
-  pub step-along : (k : ℕ) → length s ≤ limit → endsAt s c k ≡ false → yielded (placeAt s c k) (cursorAt s c (suc k)) ≡ implTypeStep s (cursorAt s c k)
+  pub next-along : (k : ℕ) → length s ≤ limit → endsAt s c k ≡ false → item (placeAt s c k) (standsAt s c (suc k)) ≡ implTypeNext s (standsAt s c k)
   unfolding offsetAt
-  step-along k h e = step-record s (cursorAt s c k) (placeAt s c k) (offsetAt s c (suc k)) h (there k e) refl
-
-  pub step-ends : (k : ℕ) → length s ≤ limit → endsAt s c k ≡ true → ended 9 (cursorAt s c k) ≡ implTypeStep s (cursorAt s c k)
-  unfolding endsAt
-  step-ends k h e =
-      step-is s (cursorAt s c k) (refused 9) (lent-fits s _ (refused 9) h (place-nine s (c .table) (offsetAt s c k) (sizeOf refRecord) e))
+  next-along k h e = next-is s (standsAt s c k) (value (placeAt s c k)) (lent-fits s _ (value (placeAt s c k)) h (there k e))
 
   -- ---- how the counting walk goes: n records are passed, and x is the next offset
 
@@ -340,22 +344,49 @@ module _ (s : List ℕ) (c : ImplTypeCursor) where
         rw add-one (record { passes = passes-more n (h .passes) (stands-there p e); at = q ∙ ap (onext s) a })
 
     -- no record is there: the chain has n
-    pub stands-last : (m : ℕ) → length s ≤ limit → refused m ≡ referenceAt s (c .table) x → value n ≡ walkOf s c
+    pub stands-last : (m : ℕ) → length s ≤ limit → refused m ≡ referenceAt s (c .table) x → value n ≡ walkFrom s c
     unfolding endsAt
     stands-last m k e =
         walk-took n .1 (k, record { passes = h .passes; ends = sym (ap isRefused (e ∙ ap (referenceAt s (c .table)) (h .at))) })
 
     -- one is, and there is no room for another at an offset of its own
-    pub stands-round : (p : Place) → length s ≤ limit → value p ≡ referenceAt s (c .table) x → length s - 15 ≤ n → refused 10 ≡ walkOf s c
+    pub stands-round : (p : Place) → length s ≤ limit → value p ≡ referenceAt s (c .table) x → length s - 15 ≤ n → refused 10 ≡ walkFrom s c
     stands-round p k e m =
         walk-circle .1 (k, crowded (suc n) (omega arith) (passes-more n (h .passes) (stands-there p e)))
+
+-- ---- the numbers along the chain
+
+module _ (s : List ℕ) (c : ImplTypeCursor) where
+  abbrev from : ChainAt
+  from = overImplTypes .stands c
+
+  -- THE NUMBER OF THE k-TH RECORD from the cursor on is the cursor's count and k, as far as numbers go
+  pub step-along : (k : ℕ) → length s ≤ limit → endsAt s from k ≡ false
+      → yielded (placeAt s from k) (numberOf (c .yielded + k)) (cursorAt s c (suc k)) ≡ implTypeStep s (cursorAt s c k)
+  step-along k h e =
+      step-found overImplTypes (implTypeNext s) (cursorAt s c k) (placeAt s from k) (standsAt s from (suc k)) (numberOf (c .yielded + suc k)) (next-along s from k h e)
+      (ap numberOf (omega arith) ∙ sym (number-next (c .yielded + k)))
+
+  pub step-ends : (k : ℕ) → length s ≤ limit → endsAt s from k ≡ true → ended 9 (cursorAt s c k) ≡ implTypeStep s (cursorAt s c k)
+  unfolding endsAt
+  step-ends k h e =
+      step-none s (cursorAt s c k) 9 (lent-fits s _ (refused 9) h (place-nine s (c .table) (offsetAt s from k) (sizeOf refRecord) e))
+
+  -- ON A CHAIN THAT COMES ROUND every step yields, for as long as it is stepped, and the number stays at the largest once it is there
+  pub step-round : Circle s from → (k : ℕ) → length s ≤ limit → largest ≤ c .yielded + k
+      → (yielded (placeAt s from k) largest (cursorAt s c (suc k)) ≡ implTypeStep s (cursorAt s c k)) × (cursorAt s c (suc k) .yielded ≡ largest)
+  step-round r k h l = (
+    ap (λ (n : ℕ). yielded (placeAt s from k) n (cursorAt s c (suc k))) (sym (number-most (c .yielded + k) l))
+        ∙ step-along k h (always s from r (suc k) k (omega arith)),
+    number-most (c .yielded + suc k) (omega (arith, l)),
+  )
 
 -- WITHOUT SEGMENT 3 the walk along a typeinfo's chain takes 0 (document 02, §2)
 pub no-table : (s : List ℕ) (lib : TypeLib) (ti : TypeInfoEntry) (c : ImplTypeCursor) (n : ℕ) → length s ≤ limit → segmentOf lib 3 ≡ refused n → value c ≡ implTypesOf s lib ti → value 0 ≡ walkOf s c
 no-table s lib ti c n h missing = by (field typeInfoBase "datatype1" s (ti .at) (ti .len))
   where
-    by : (a : Answer ℕ) → value c ≡ map (λ (offset : ℕ). record { table = referenceTable lib; next = offset }) a → value 0 ≡ walkOf s c
+    by : (a : Answer ℕ) → value c ≡ map (λ (offset : ℕ). record { table = referenceTable lib; next = offset; yielded = 0 }) a → value 0 ≡ walkOf s c
     by (value offset) e =
-        let q : c ≡ record { table = referenceTable lib; next = offset } = cc in
-        walk-empty s c h (ap (λ (x : ImplTypeCursor). x .table .len) q ∙ ap (λ (a : Answer Place). tableOf a .len) missing)
+        let q : c ≡ record { table = referenceTable lib; next = offset; yielded = 0 } = cc in
+        walk-empty s (overImplTypes .stands c) h (ap (λ (x : ImplTypeCursor). x .table .len) q ∙ ap (λ (a : Answer Place). tableOf a .len) missing)
     by (refused m) e = let z : _≡_ {A = ℕ} 0 1 = cc in absurd (omega arith)

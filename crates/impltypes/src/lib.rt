@@ -1,5 +1,6 @@
 // Implemented types: the chain of reference records of a coclass, its cursor and the full walk
 // (`impl_types` of typelib.rs and `ImplTypeIter` of iterators.rs; the walk is added by document 01).
+use cursors::iterators;
 use records::answer::Place;
 use records::answer::PlaceAnswer;
 use records::answer::U32Answer;
@@ -20,11 +21,11 @@ ghost use Rattle.impltypes.specs.Chain.{toldImplTypes, toldImplTypeStep,
 
 const REFERENCE_TABLE: usize = 3;
 
-// The reference table, and the offset of the next record in it, the 32-bit pattern of a signed
-// number.
+// The reference table, the offset of the next record in it, the 32-bit pattern of a signed number, and how many records were yielded.
 pub struct ImplTypeCursor {
     pub table: Place,
     pub next: u32,
+    pub yielded: u64,
 }
 
 pub enum ImplTypesAnswer {
@@ -32,9 +33,9 @@ pub enum ImplTypesAnswer {
     Refused(u8),
 }
 
-// A record and the cursor behind it, or the number of the refusal and the cursor unchanged.
+// A record, its number from 0 and the cursor behind it, or the number of the refusal and the cursor unchanged.
 pub enum ImplTypeStep {
-    Record(RefRecord, ImplTypeCursor),
+    Record(RefRecord, u64, ImplTypeCursor),
     Refused(u8, ImplTypeCursor),
 }
 
@@ -58,7 +59,11 @@ pub fn impl_types_at(lib: &Numbers, s: &[u8], ti: TypeInfoEntry) -> ImplTypesAns
     match field::field_u32(s, ti.at, ti.len, TypeInfoEntry::SIZE, 0x54) {
         U32Answer::Value(next) => {
             let table = tables::table(lib, REFERENCE_TABLE);
-            ImplTypesAnswer::Value(ImplTypeCursor { table, next })
+            ImplTypesAnswer::Value(ImplTypeCursor {
+                table,
+                next,
+                yielded: 0,
+            })
         }
         U32Answer::Refused(n) => ImplTypesAnswer::Refused(n),
     }
@@ -80,7 +85,16 @@ impl ImplTypeCursor {
                     len: place.len,
                 };
                 let next = next_offset(s, place.at);
-                ImplTypeStep::Record(record, ImplTypeCursor { table, next })
+                let yielded = iterators::number_behind(self.yielded);
+                ImplTypeStep::Record(
+                    record,
+                    self.yielded,
+                    ImplTypeCursor {
+                        table,
+                        next,
+                        yielded,
+                    },
+                )
             }
             PlaceAnswer::Refused(n) => ImplTypeStep::Refused(n, self),
         }

@@ -15,11 +15,16 @@ use Rattle.typelib.specs.Tables.{lent, segmentOf}
 use Rattle.typelib.specs.TypeInfos.{funcName, typeinfoOf, typeinfoOffset, varName}
 use Rattle.constants.specs.Constants.{constAt}
 use Rattle.impltypes.specs.Chain.{implTypesOf}
-use Rattle.table_cursors.specs.Cursors.{guidsOf, impFilesOf, importsOf, namesOf, typeinfoStep, typeinfosOf}
+use Rattle.cursors.specs.Cursors.{funcStep, paramStep, varStep}
+use Rattle.cursors.specs.declared.iterators.FuncCursor.{FuncCursor}
+use Rattle.cursors.specs.declared.iterators.VarCursor.{VarCursor}
+use Rattle.cursors.specs.declared.iterators.ParamCursor.{ParamCursor}
+use Rattle.table_cursors.specs.Cursors.{guidsOf, impFileStep, impFilesOf, importsOf, namesOf, typeinfoStep, typeinfosOf}
 use Rattle.table_cursors.specs.Members.{memberName}
+use Rattle.table_cursors.specs.declared.iterators.ImpFileCursor.{ImpFileCursor}
 use Rattle.table_cursors.specs.declared.iterators.TypeInfoCursor.{TypeInfoCursor}
 use Rattle.replies.specs.Call.{inLibrary, kindNumber}
-use Rattle.rows.specs.Values.{chainCursor, constant, cursor, description, guidNumbers, impFileNumbers, importNumbers, nameNumbers, pair, place, reference, size, step, typeinfoNumbers}
+use Rattle.rows.specs.Values.{chainCursor, constant, cursor, description, funcNumbers, guidNumbers, impFileNumbers, importNumbers, nameNumbers, pair, paramNumbers, place, reference, size, step, typeinfoNumbers, varNumbers}
 
 -- ---- of a record
 
@@ -123,6 +128,19 @@ namesRow s = inLibrary s (λ lib. map (cursor nameNumbers) (namesOf s lib))
 
 abbrev pub implTypesRow : List ℕ → TypeInfoEntry → Answer (List ℕ)
 implTypesRow s ti = inLibrary s (λ lib. map chainCursor (implTypesOf s lib ti))
+
+-- what a step lays: over functions, variables and parameters, and over import files
+abbrev pub funcStepRow : List ℕ → FuncCursor → Answer (List ℕ)
+funcStepRow s c = step funcNumbers (funcStep s c)
+
+abbrev pub varStepRow : List ℕ → VarCursor → Answer (List ℕ)
+varStepRow s c = step varNumbers (varStep s c)
+
+abbrev pub paramStepRow : List ℕ → ParamCursor → Answer (List ℕ)
+paramStepRow s c = step paramNumbers (paramStep s c)
+
+abbrev pub impFileStepRow : List ℕ → ImpFileCursor → Answer (List ℕ)
+impFileStepRow s c = step impFileNumbers (impFileStep s c)
 
 -- the typeinfos from the first; what a step of theirs lays; how many are left
 abbrev pub typeinfosRow : List ℕ → Answer (List ℕ)

@@ -18,12 +18,12 @@ use typelib::TypeInfoIndex;
 use typelib::TypeLib;
 ghost use Rattle.replies.specs.At.{chainAt, funcAt, funcsAt, guidsAt, impFilesAt, importsAt, namesAt, paramsAt, typeinfoAt, typeinfosAt, varsAt};
 ghost use Rattle.replies.specs.Call.{laid, outcome};
-ghost use Rattle.rows.specs.Values.{chainStep, cursor, entryStep, funcNumbers, guidNumbers, impFileNumbers, importNumbers, paramNumbers, size, step, varNumbers};
+ghost use Rattle.rows.specs.Values.{chainStep, cursor, entryStep, funcNumbers, guidNumbers, importNumbers, paramNumbers, size, step, varNumbers};
 ghost use Rattle.records.specs.Answer.{map};
 ghost use Rattle.impltypes.specs.Chain.{implTypeStep, walkOf};
-ghost use Rattle.cursors.specs.Cursors.{funcStep, funcsOf, paramStep, paramsOf, varStep, varsOf};
-ghost use Rattle.table_cursors.specs.Cursors.{guidStep, impFileStep, importStep, nameStep};
-ghost use Rattle.msft_typelib.specs.Rows.{guidsRow, impFilesRow, implTypesRow, importsRow, namesRow, typeinfoStepRow, typeinfosRow, typesLeftRow};
+ghost use Rattle.cursors.specs.Cursors.{funcsOf, paramsOf, varsOf};
+ghost use Rattle.table_cursors.specs.Cursors.{guidStep, importStep, nameStep};
+ghost use Rattle.msft_typelib.specs.Rows.{funcStepRow, guidsRow, impFileStepRow, impFilesRow, implTypesRow, importsRow, namesRow, paramStepRow, typeinfoStepRow, typeinfosRow, typesLeftRow, varStepRow};
 ghost use mathlib.Core.Path.{_≡_};
 
 // The function records of a typeinfo.
@@ -135,15 +135,17 @@ pub extern "C" fn msft_func_step(
     pos: usize,
     end: usize,
     remaining: usize,
+    yielded: u64,
     out: &mut [u8],
 ) -> i64
-    ensures { λ r. ⌜ outcome r (now (out .exit)) ≡ laid (step funcNumbers (funcStep (now (s .entry)) (funcsAt pos end remaining))) (now (out .entry)) ⌝ }
+    ensures { λ r. ⌜ outcome r (now (out .exit)) ≡ laid (funcStepRow (now (s .entry)) (funcsAt pos end remaining yielded)) (now (out .entry)) ⌝ }
 {
     reply::lay(
         rows::of_func_step(FuncCursor {
             pos,
             end,
             remaining,
+            yielded,
         }.step(s)),
         out,
     )
@@ -155,15 +157,17 @@ pub extern "C" fn msft_var_step(
     pos: usize,
     end: usize,
     remaining: usize,
+    yielded: u64,
     out: &mut [u8],
 ) -> i64
-    ensures { λ r. ⌜ outcome r (now (out .exit)) ≡ laid (step varNumbers (varStep (now (s .entry)) (varsAt pos end remaining))) (now (out .entry)) ⌝ }
+    ensures { λ r. ⌜ outcome r (now (out .exit)) ≡ laid (varStepRow (now (s .entry)) (varsAt pos end remaining yielded)) (now (out .entry)) ⌝ }
 {
     reply::lay(
         rows::of_var_step(VarCursor {
             pos,
             end,
             remaining,
+            yielded,
         }.step(s)),
         out,
     )
@@ -175,40 +179,66 @@ pub extern "C" fn msft_param_step(
     pos: usize,
     end: usize,
     remaining: usize,
+    yielded: u64,
     out: &mut [u8],
 ) -> i64
-    ensures { λ r. ⌜ outcome r (now (out .exit)) ≡ laid (step paramNumbers (paramStep (now (s .entry)) (paramsAt pos end remaining))) (now (out .entry)) ⌝ }
+    ensures { λ r. ⌜ outcome r (now (out .exit)) ≡ laid (paramStepRow (now (s .entry)) (paramsAt pos end remaining yielded)) (now (out .entry)) ⌝ }
 {
     reply::lay(
         rows::of_param_step(ParamCursor {
             pos,
             end,
             remaining,
+            yielded,
         }.step(s)),
         out,
     )
 }
 
 #[no_mangle]
-pub extern "C" fn msft_guid_step(s: &[u8], pos: usize, end: usize, out: &mut [u8]) -> i64
-    ensures { λ r. ⌜ outcome r (now (out .exit)) ≡ laid (step guidNumbers (guidStep (now (s .entry)) (guidsAt pos end))) (now (out .entry)) ⌝ }
-{
-    reply::lay(rows::of_guid_step(GuidCursor { pos, end }.step(s)), out)
-}
-
-#[no_mangle]
-pub extern "C" fn msft_import_step(s: &[u8], pos: usize, end: usize, out: &mut [u8]) -> i64
-    ensures { λ r. ⌜ outcome r (now (out .exit)) ≡ laid (step importNumbers (importStep (now (s .entry)) (importsAt pos end))) (now (out .entry)) ⌝ }
-{
-    reply::lay(rows::of_import_step(ImportCursor { pos, end }.step(s)), out)
-}
-
-#[no_mangle]
-pub extern "C" fn msft_imp_file_step(s: &[u8], pos: usize, end: usize, out: &mut [u8]) -> i64
-    ensures { λ r. ⌜ outcome r (now (out .exit)) ≡ laid (step impFileNumbers (impFileStep (now (s .entry)) (impFilesAt pos end))) (now (out .entry)) ⌝ }
+pub extern "C" fn msft_guid_step(
+    s: &[u8],
+    pos: usize,
+    end: usize,
+    yielded: u64,
+    out: &mut [u8],
+) -> i64
+    ensures { λ r. ⌜ outcome r (now (out .exit)) ≡ laid (step guidNumbers (guidStep (now (s .entry)) (guidsAt pos end yielded))) (now (out .entry)) ⌝ }
 {
     reply::lay(
-        rows::of_imp_file_step(ImpFileCursor { pos, end }.step(s)),
+        rows::of_guid_step(GuidCursor { pos, end, yielded }.step(s)),
+        out,
+    )
+}
+
+#[no_mangle]
+pub extern "C" fn msft_import_step(
+    s: &[u8],
+    pos: usize,
+    end: usize,
+    yielded: u64,
+    out: &mut [u8],
+) -> i64
+    ensures { λ r. ⌜ outcome r (now (out .exit)) ≡ laid (step importNumbers (importStep (now (s .entry)) (importsAt pos end yielded))) (now (out .entry)) ⌝ }
+{
+    reply::lay(
+        rows::of_import_step(ImportCursor { pos, end, yielded }.step(s)),
+        out,
+    )
+}
+
+#[no_mangle]
+pub extern "C" fn msft_imp_file_step(
+    s: &[u8],
+    pos: usize,
+    end: usize,
+    yielded: u64,
+    out: &mut [u8],
+) -> i64
+    ensures { λ r. ⌜ outcome r (now (out .exit)) ≡ laid (impFileStepRow (now (s .entry)) (impFilesAt pos end yielded)) (now (out .entry)) ⌝ }
+{
+    reply::lay(
+        rows::of_imp_file_step(ImpFileCursor { pos, end, yielded }.step(s)),
         out,
     )
 }
@@ -219,12 +249,18 @@ pub extern "C" fn msft_name_step(
     pos: usize,
     end: usize,
     start: usize,
+    yielded: u64,
     out: &mut [u8],
 ) -> i64
-    ensures { λ r. ⌜ outcome r (now (out .exit)) ≡ laid (entryStep (nameStep (now (s .entry)) (namesAt pos end start))) (now (out .entry)) ⌝ }
+    ensures { λ r. ⌜ outcome r (now (out .exit)) ≡ laid (entryStep (nameStep (now (s .entry)) (namesAt pos end start yielded))) (now (out .entry)) ⌝ }
 {
     reply::lay(
-        rows::of_name_step(NameCursor { pos, end, start }.step(s)),
+        rows::of_name_step(NameCursor {
+            pos,
+            end,
+            start,
+            yielded,
+        }.step(s)),
         out,
     )
 }
@@ -248,27 +284,37 @@ pub extern "C" fn msft_impl_type_step(
     at: usize,
     len: usize,
     next: u32,
+    yielded: u64,
     out: &mut [u8],
 ) -> i64
-    ensures { λ r. ⌜ outcome r (now (out .exit)) ≡ laid (chainStep (implTypeStep (now (s .entry)) (chainAt at len next))) (now (out .entry)) ⌝ }
+    ensures { λ r. ⌜ outcome r (now (out .exit)) ≡ laid (chainStep (implTypeStep (now (s .entry)) (chainAt at len next yielded))) (now (out .entry)) ⌝ }
 {
     reply::lay(
         rows::of_impl_type_step(ImplTypeCursor {
             table: Place { at, len },
             next,
+            yielded,
         }.step(s)),
         out,
     )
 }
 
 #[no_mangle]
-pub extern "C" fn msft_walk(s: &[u8], at: usize, len: usize, next: u32, out: &mut [u8]) -> i64
-    ensures { λ r. ⌜ outcome r (now (out .exit)) ≡ laid (map size (walkOf (now (s .entry)) (chainAt at len next))) (now (out .entry)) ⌝ }
+pub extern "C" fn msft_walk(
+    s: &[u8],
+    at: usize,
+    len: usize,
+    next: u32,
+    yielded: u64,
+    out: &mut [u8],
+) -> i64
+    ensures { λ r. ⌜ outcome r (now (out .exit)) ≡ laid (map size (walkOf (now (s .entry)) (chainAt at len next yielded))) (now (out .entry)) ⌝ }
 {
     reply::lay(
         rows::of_walk(ImplTypeCursor {
             table: Place { at, len },
             next,
+            yielded,
         }.walk(s)),
         out,
     )

@@ -32,7 +32,7 @@ use entry::Lent;
 use progress::Progress;
 
 // A file that fills all of this may be longer, and is not replayed.
-const ROOM: usize = 1_048_576;
+const ROOM: usize = 2_097_152;
 
 fn main() {
     replay_file(b"records", 0, kinds::COUNT);

@@ -1,8 +1,10 @@
 // One step of a cursor of each kind.
 //
 // A cursor that knows how many records are left at most says so before each step. The answer of a
-// step is the record's place, or the values of a name entry, or a refusal. At the end, 9, the cursor
-// must come back unchanged.
+// step is the record's place, or the values of a name entry, or a refusal. Behind a record comes its number, with
+// the count of the cursor behind it. At the end, 9, the cursor must come back unchanged.
+use crate::bytes::numbers;
+use crate::compare::same;
 use crate::compare::same_place;
 use crate::compare::same_usize;
 use crate::kinds;
@@ -20,6 +22,7 @@ use impltypes::ImplTypeStep;
 use records::answer::Place;
 use records::answer::PlaceAnswer;
 use records::answer::UsizeAnswer;
+use std::num::wrapping_sub_u64;
 use table_cursors::iterators::GuidCursor;
 use table_cursors::iterators::GuidStep;
 use table_cursors::iterators::ImpFileCursor;
@@ -40,6 +43,8 @@ pub struct State {
     pub end: usize,
     pub rest: usize,
     pub next: u32,
+    // How many records it has yielded; of typeinfos their index.
+    pub count: u64,
 }
 
 // What a step has come to.
@@ -48,29 +53,68 @@ pub struct Stepped {
     pub progress: Progress,
 }
 
-pub(crate) fn state_of(pos: usize, end: usize, rest: usize) -> State {
+pub(crate) fn state_of(pos: usize, end: usize, rest: usize, count: u64) -> State {
     State {
         pos,
         end,
         rest,
         next: 0,
+        count,
     }
 }
 
+pub(crate) fn of_funcs(cursor: FuncCursor) -> State {
+    state_of(cursor.pos, cursor.end, cursor.remaining, cursor.yielded)
+}
+
+pub(crate) fn of_vars(cursor: VarCursor) -> State {
+    state_of(cursor.pos, cursor.end, cursor.remaining, cursor.yielded)
+}
+
+pub(crate) fn of_params(cursor: ParamCursor) -> State {
+    state_of(cursor.pos, cursor.end, cursor.remaining, cursor.yielded)
+}
+
+pub(crate) fn of_guids(cursor: GuidCursor) -> State {
+    state_of(cursor.pos, cursor.end, 0, cursor.yielded)
+}
+
+pub(crate) fn of_imports(cursor: ImportCursor) -> State {
+    state_of(cursor.pos, cursor.end, 0, cursor.yielded)
+}
+
+pub(crate) fn of_imp_files(cursor: ImpFileCursor) -> State {
+    state_of(cursor.pos, cursor.end, 0, cursor.yielded)
+}
+
+pub(crate) fn of_names(cursor: NameCursor) -> State {
+    state_of(cursor.pos, cursor.end, cursor.start, cursor.yielded)
+}
+
+// The cursor over typeinfos, by the index of its next one.
+pub(crate) fn of_typeinfos(cursor: TypeInfoCursor) -> State {
+    let index = cursor.index;
+    state_of(index.0, 0, 0, index.0 as u64)
+}
+
 // The cursor along a chain, by its table and the offset of its next record.
-pub(crate) fn chain(table: Place, next: u32) -> State {
+pub(crate) fn of_chain(cursor: ImplTypeCursor) -> State {
+    let table = cursor.table;
     State {
         pos: table.at,
         end: table.len,
         rest: 0,
-        next,
+        next: cursor.next,
+        count: cursor.yielded,
     }
 }
 
-// The cursor over typeinfos, by the index of its next one.
-pub(crate) fn at_index(cursor: TypeInfoCursor) -> State {
-    let index = cursor.index;
-    state_of(index.0, 0, 0)
+// The count of a cursor that was made with this one, if it is set so far below 0, in 64 bits; by 0 it is not set.
+pub(crate) fn count_below(made: u64, below: u32) -> u64 {
+    if below == 0 {
+        return made;
+    }
+    wrapping_sub_u64(0, below as u64)
 }
 
 pub(crate) fn step(
@@ -94,11 +138,24 @@ pub(crate) fn step(
     }
 }
 
-// A record, and the cursor behind it.
-fn yielded(recorded: &[u8], at: usize, len: usize, state: State, before: Progress) -> Stepped {
+// A record and its number, and the cursor behind it.
+fn yielded(
+    recorded: &[u8],
+    at: usize,
+    len: usize,
+    number: u64,
+    state: State,
+    before: Progress,
+) -> Stepped {
+    let placed = same_place(recorded, before, PlaceAnswer::Value(Place { at, len }));
+    numbered(recorded, number, state, placed)
+}
+
+// The number of a record that was compared, and the count of the cursor behind it.
+fn numbered(recorded: &[u8], number: u64, state: State, before: Progress) -> Stepped {
     Stepped {
         state,
-        progress: same_place(recorded, before, PlaceAnswer::Value(Place { at, len })),
+        progress: same(recorded, before, numbers(8, number, 8, state.count)),
     }
 }
 
@@ -112,7 +169,7 @@ fn refused(recorded: &[u8], n: u8, from: State, state: State, before: Progress) 
 }
 
 fn is_same(a: State, b: State) -> bool {
-    a.pos == b.pos && a.end == b.end && a.rest == b.rest && a.next == b.next
+    a.pos == b.pos && a.end == b.end && a.rest == b.rest && a.next == b.next && a.count == b.count
 }
 
 fn step_typeinfos(
@@ -126,11 +183,11 @@ fn step_typeinfos(
     let cursor = TypeInfoCursor { index };
     let hinted = same_usize(recorded, before, UsizeAnswer::Value(cursor.size_hint(lib)));
     match cursor.step(lent, lib) {
-        TypeInfoStep::Record(record, next) => Stepped {
-            state: at_index(next),
-            progress: members::same_typeinfo(recorded, hinted, TypeInfoAnswer::Value(record)),
-        },
-        TypeInfoStep::Refused(n, next) => refused(recorded, n, state, at_index(next), hinted),
+        TypeInfoStep::Record(record, number, next) => {
+            let placed = members::same_typeinfo(recorded, hinted, TypeInfoAnswer::Value(record));
+            numbered(recorded, number, of_typeinfos(next), placed)
+        }
+        TypeInfoStep::Refused(n, next) => refused(recorded, n, state, of_typeinfos(next), hinted),
     }
 }
 
@@ -139,23 +196,14 @@ fn step_funcs(lent: &[u8], recorded: &[u8], state: State, before: Progress) -> S
         pos: state.pos,
         end: state.end,
         remaining: state.rest,
+        yielded: state.count,
     };
     let hinted = same_usize(recorded, before, UsizeAnswer::Value(cursor.size_hint()));
     match cursor.step(lent) {
-        FuncStep::Record(r, next) => yielded(
-            recorded,
-            r.at,
-            r.len,
-            state_of(next.pos, next.end, next.remaining),
-            hinted,
-        ),
-        FuncStep::Refused(n, next) => refused(
-            recorded,
-            n,
-            state,
-            state_of(next.pos, next.end, next.remaining),
-            hinted,
-        ),
+        FuncStep::Record(r, number, next) => {
+            yielded(recorded, r.at, r.len, number, of_funcs(next), hinted)
+        }
+        FuncStep::Refused(n, next) => refused(recorded, n, state, of_funcs(next), hinted),
     }
 }
 
@@ -164,23 +212,14 @@ fn step_vars(lent: &[u8], recorded: &[u8], state: State, before: Progress) -> St
         pos: state.pos,
         end: state.end,
         remaining: state.rest,
+        yielded: state.count,
     };
     let hinted = same_usize(recorded, before, UsizeAnswer::Value(cursor.size_hint()));
     match cursor.step(lent) {
-        VarStep::Record(r, next) => yielded(
-            recorded,
-            r.at,
-            r.len,
-            state_of(next.pos, next.end, next.remaining),
-            hinted,
-        ),
-        VarStep::Refused(n, next) => refused(
-            recorded,
-            n,
-            state,
-            state_of(next.pos, next.end, next.remaining),
-            hinted,
-        ),
+        VarStep::Record(r, number, next) => {
+            yielded(recorded, r.at, r.len, number, of_vars(next), hinted)
+        }
+        VarStep::Refused(n, next) => refused(recorded, n, state, of_vars(next), hinted),
     }
 }
 
@@ -189,46 +228,14 @@ fn step_params(lent: &[u8], recorded: &[u8], state: State, before: Progress) -> 
         pos: state.pos,
         end: state.end,
         remaining: state.rest,
+        yielded: state.count,
     };
     let hinted = same_usize(recorded, before, UsizeAnswer::Value(cursor.size_hint()));
     match cursor.step(lent) {
-        ParamStep::Record(r, next) => yielded(
-            recorded,
-            r.at,
-            r.len,
-            state_of(next.pos, next.end, next.remaining),
-            hinted,
-        ),
-        ParamStep::Refused(n, next) => refused(
-            recorded,
-            n,
-            state,
-            state_of(next.pos, next.end, next.remaining),
-            hinted,
-        ),
-    }
-}
-
-fn step_guids(lent: &[u8], recorded: &[u8], state: State, before: Progress) -> Stepped {
-    let cursor = GuidCursor {
-        pos: state.pos,
-        end: state.end,
-    };
-    match cursor.step(lent) {
-        GuidStep::Record(r, next) => yielded(
-            recorded,
-            r.at,
-            r.len,
-            state_of(next.pos, next.end, 0),
-            before,
-        ),
-        GuidStep::Refused(n, next) => refused(
-            recorded,
-            n,
-            state,
-            state_of(next.pos, next.end, 0),
-            before,
-        ),
+        ParamStep::Record(r, number, next) => {
+            yielded(recorded, r.at, r.len, number, of_params(next), hinted)
+        }
+        ParamStep::Refused(n, next) => refused(recorded, n, state, of_params(next), hinted),
     }
 }
 
@@ -237,19 +244,28 @@ fn step_names(lent: &[u8], recorded: &[u8], state: State, before: Progress) -> S
         pos: state.pos,
         end: state.end,
         start: state.rest,
+        yielded: state.count,
     };
     match cursor.step(lent) {
-        NameStep::Record(entry, next) => Stepped {
-            state: state_of(next.pos, next.end, next.start),
-            progress: kinds::name_entry(lent, recorded, entry, before),
-        },
-        NameStep::Refused(n, next) => refused(
-            recorded,
-            n,
-            state,
-            state_of(next.pos, next.end, next.start),
-            before,
-        ),
+        NameStep::Record(entry, number, next) => {
+            let told = kinds::name_entry(lent, recorded, entry, before);
+            numbered(recorded, number, of_names(next), told)
+        }
+        NameStep::Refused(n, next) => refused(recorded, n, state, of_names(next), before),
+    }
+}
+
+fn step_guids(lent: &[u8], recorded: &[u8], state: State, before: Progress) -> Stepped {
+    let cursor = GuidCursor {
+        pos: state.pos,
+        end: state.end,
+        yielded: state.count,
+    };
+    match cursor.step(lent) {
+        GuidStep::Record(r, number, next) => {
+            yielded(recorded, r.at, r.len, number, of_guids(next), before)
+        }
+        GuidStep::Refused(n, next) => refused(recorded, n, state, of_guids(next), before),
     }
 }
 
@@ -257,22 +273,13 @@ fn step_imports(lent: &[u8], recorded: &[u8], state: State, before: Progress) ->
     let cursor = ImportCursor {
         pos: state.pos,
         end: state.end,
+        yielded: state.count,
     };
     match cursor.step(lent) {
-        ImportStep::Record(r, next) => yielded(
-            recorded,
-            r.at,
-            r.len,
-            state_of(next.pos, next.end, 0),
-            before,
-        ),
-        ImportStep::Refused(n, next) => refused(
-            recorded,
-            n,
-            state,
-            state_of(next.pos, next.end, 0),
-            before,
-        ),
+        ImportStep::Record(r, number, next) => {
+            yielded(recorded, r.at, r.len, number, of_imports(next), before)
+        }
+        ImportStep::Refused(n, next) => refused(recorded, n, state, of_imports(next), before),
     }
 }
 
@@ -280,24 +287,13 @@ fn step_imp_files(lent: &[u8], recorded: &[u8], state: State, before: Progress) 
     let cursor = ImpFileCursor {
         pos: state.pos,
         end: state.end,
+        yielded: state.count,
     };
     match cursor.step(lent) {
-        ImpFileStep::Record(r, next) => {
-            yielded(
-                recorded,
-                r.at,
-                r.len,
-                state_of(next.pos, next.end, 0),
-                before,
-            )
+        ImpFileStep::Record(r, number, next) => {
+            yielded(recorded, r.at, r.len, number, of_imp_files(next), before)
         }
-        ImpFileStep::Refused(n, next) => refused(
-            recorded,
-            n,
-            state,
-            state_of(next.pos, next.end, 0),
-            before,
-        ),
+        ImpFileStep::Refused(n, next) => refused(recorded, n, state, of_imp_files(next), before),
     }
 }
 
@@ -306,20 +302,15 @@ fn step_impl_types(lent: &[u8], recorded: &[u8], state: State, before: Progress)
         at: state.pos,
         len: state.end,
     };
-    let next = state.next;
-    let cursor = ImplTypeCursor { table, next };
+    let cursor = ImplTypeCursor {
+        table,
+        next: state.next,
+        yielded: state.count,
+    };
     match cursor.step(lent) {
-        ImplTypeStep::Record(r, behind) => {
-            yielded(
-                recorded,
-                r.at,
-                r.len,
-                chain(behind.table, behind.next),
-                before,
-            )
+        ImplTypeStep::Record(r, number, next) => {
+            yielded(recorded, r.at, r.len, number, of_chain(next), before)
         }
-        ImplTypeStep::Refused(n, same) => {
-            refused(recorded, n, state, chain(same.table, same.next), before)
-        }
+        ImplTypeStep::Refused(n, next) => refused(recorded, n, state, of_chain(next), before),
     }
 }

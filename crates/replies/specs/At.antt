@@ -18,29 +18,29 @@ typeinfoAt at len = record { at = at; len = len }
 abbrev pub funcAt : ℕ → ℕ → FuncRecord
 funcAt at len = record { at = at; len = len }
 
-abbrev pub funcsAt : ℕ → ℕ → ℕ → FuncCursor
-funcsAt pos end remaining = record { pos = pos; end = end; remaining = remaining }
+abbrev pub funcsAt : ℕ → ℕ → ℕ → ℕ → FuncCursor
+funcsAt pos end remaining yielded = record { pos = pos; end = end; remaining = remaining; yielded = yielded }
 
-abbrev pub varsAt : ℕ → ℕ → ℕ → VarCursor
-varsAt pos end remaining = record { pos = pos; end = end; remaining = remaining }
+abbrev pub varsAt : ℕ → ℕ → ℕ → ℕ → VarCursor
+varsAt pos end remaining yielded = record { pos = pos; end = end; remaining = remaining; yielded = yielded }
 
-abbrev pub paramsAt : ℕ → ℕ → ℕ → ParamCursor
-paramsAt pos end remaining = record { pos = pos; end = end; remaining = remaining }
+abbrev pub paramsAt : ℕ → ℕ → ℕ → ℕ → ParamCursor
+paramsAt pos end remaining yielded = record { pos = pos; end = end; remaining = remaining; yielded = yielded }
 
-abbrev pub guidsAt : ℕ → ℕ → GuidCursor
-guidsAt pos end = record { pos = pos; end = end }
+abbrev pub guidsAt : ℕ → ℕ → ℕ → GuidCursor
+guidsAt pos end yielded = record { pos = pos; end = end; yielded = yielded }
 
-abbrev pub importsAt : ℕ → ℕ → ImportCursor
-importsAt pos end = record { pos = pos; end = end }
+abbrev pub importsAt : ℕ → ℕ → ℕ → ImportCursor
+importsAt pos end yielded = record { pos = pos; end = end; yielded = yielded }
 
-abbrev pub impFilesAt : ℕ → ℕ → ImpFileCursor
-impFilesAt pos end = record { pos = pos; end = end }
+abbrev pub impFilesAt : ℕ → ℕ → ℕ → ImpFileCursor
+impFilesAt pos end yielded = record { pos = pos; end = end; yielded = yielded }
 
-abbrev pub namesAt : ℕ → ℕ → ℕ → NameCursor
-namesAt pos end start = record { pos = pos; end = end; start = start }
+abbrev pub namesAt : ℕ → ℕ → ℕ → ℕ → NameCursor
+namesAt pos end start yielded = record { pos = pos; end = end; start = start; yielded = yielded }
 
 abbrev pub typeinfosAt : ℕ → TypeInfoCursor
 typeinfosAt index = record { index = record { 0 = index } }
 
-abbrev pub chainAt : ℕ → ℕ → ℕ → ImplTypeCursor
-chainAt at len next = record { table = record { at = at; len = len }; next = next }
+abbrev pub chainAt : ℕ → ℕ → ℕ → ℕ → ImplTypeCursor
+chainAt at len next yielded = record { table = record { at = at; len = len }; next = next; yielded = yielded }

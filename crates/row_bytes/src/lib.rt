@@ -18,7 +18,7 @@ ghost use Rattle.typelib.specs.References.{external};
 ghost use Rattle.describe.specs.Constants.{numberIn, placeIn};
 ghost use Rattle.sheet_constants.specs.Told.{toldContent, toldShape};
 ghost use Rattle.rows.specs.Told.{numbersOf, toldRow};
-ghost use Rattle.rows.specs.Values.{eights, place, optPlace, reference, span, contentBytes, constant, nameEntry, nameNumbers, cursor};
+ghost use Rattle.rows.specs.Values.{eights, place, optPlace, reference, span, contentBytes, constant, nameEntry, nameNumbers};
 ghost use Rattle.emit.specs.Emit.{Emits};
 
 fn put_longs(out: &mut [u8], to: usize, l: Longs) -> usize
@@ -39,6 +39,17 @@ fn put_longs(out: &mut [u8], to: usize, l: Longs) -> usize
             let t = emit::put_le(out, to, a, 8);
             let t = put_two(out, t, b, c);
             put_two(out, t, d, e)
+        }
+        Longs::Six(a, b, c, d, e, f) => {
+            let t = put_two(out, to, a, b);
+            let t = put_two(out, t, c, d);
+            put_two(out, t, e, f)
+        }
+        Longs::Seven(a, b, c, d, e, f, g) => {
+            let t = emit::put_le(out, to, a, 8);
+            let t = put_two(out, t, b, c);
+            let t = put_two(out, t, d, e);
+            put_two(out, t, f, g)
         }
     }
 }
@@ -163,15 +174,21 @@ fn put_entry(out: &mut [u8], to: usize, e: NameEntry) -> usize
     emit::put_u16(out, t, e.hashcode)
 }
 
-// The entry, and the cursor behind it.
-fn put_name_step(out: &mut [u8], to: usize, e: NameEntry, c: NameCursor) -> usize
-    ensures { λ r. ⌜ Emits (value (nameEntry e ++ cursor nameNumbers c)) to (now (out .entry)) r (now (out .exit)) ⌝ }
+// The entry, its number, and the cursor behind it.
+fn put_name_step(out: &mut [u8], to: usize, e: NameEntry, number: u64, c: NameCursor) -> usize
+    ensures { λ r. ⌜ Emits (value (nameEntry e ++ eights (number ∷ nameNumbers c))) to (now (out .entry)) r (now (out .exit)) ⌝ }
 {
     let t = put_entry(out, to, e);
     put_longs(
         out,
         t,
-        Longs::Three(c.pos as u64, c.end as u64, c.start as u64),
+        Longs::Five(
+            number,
+            c.pos as u64,
+            c.end as u64,
+            c.start as u64,
+            c.yielded,
+        ),
     )
 }
 
@@ -185,9 +202,10 @@ pub fn put_row(out: &mut [u8], to: usize, row: Row) -> usize
             let t = emit::put_u32(out, to, a);
             emit::put_u32(out, t, b)
         }
-        Row::Chain(l, a) => {
+        Row::Chain(l, next, yielded) => {
             let t = put_longs(out, to, l);
-            emit::put_u32(out, t, a)
+            let t = emit::put_u32(out, t, next);
+            emit::put_le(out, t, yielded, 8)
         }
         Row::Marked(m, l) => {
             let t = emit::put_u8(out, to, m);
@@ -203,7 +221,7 @@ pub fn put_row(out: &mut [u8], to: usize, row: Row) -> usize
         }
         Row::Import(p, file) => put_import(out, to, p, file),
         Row::Constant(v) => put_constant(out, to, v),
-        Row::Entry(e, c) => put_name_step(out, to, e, c),
+        Row::Entry(e, number, c) => put_name_step(out, to, e, number, c),
         Row::Refused(n) => emit::put_refusal(to, n),
     }
 }

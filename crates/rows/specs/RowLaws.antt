@@ -1,8 +1,8 @@
 -- A row is short. Assumes nothing.
-use mathlib.Core.Path.{_≡_, sym}
+use mathlib.Core.Path.{_≡_}
 use mathlib.Core.Bool.{Bool, true, false, _&&_}
-use mathlib.Core.List.{List, [], _∷_, _++_, map}
-use Prim.Native.Nat.{ℕ, zero, suc, _+_, _*_, _≤_, _<_}
+use mathlib.Core.List.{List, [], _∷_, map}
+use Prim.Native.Nat.{ℕ, zero, suc, _+_, _*_, _≤_}
 use native.Mathlib.Omega.{arith}
 use lib.Dec.{T, leb, leb→le, eqb}
 use lib.ListN.{length, getD, length-append, List·getD-map}
@@ -13,10 +13,10 @@ use Rattle.records.specs.Types.{vtOf}
 use Rattle.records.specs.declared.answer.Place.{Place}
 use Rattle.records.specs.declared.types.ConstValue.{ConstValue}
 use Rattle.typelib.specs.Told.{toldImpFile}
-use Rattle.description.specs.Format.{leBytes, length-leBytes}
+use Rattle.description.specs.Format.{length-leBytes}
 use Rattle.description.specs.Description.{Shape, shapes, shapeOf}
 use Rattle.describe.specs.Constants.{Content, contentOf, placeIn}
-use Rattle.rows.specs.Values.{eights, place, optPlace, span, contentBytes, constant}
+use Rattle.rows.specs.Values.{eights, optPlace, span, contentBytes, constant}
 use Rattle.rows.specs.Told.{numbersOf, toldRow}
 use Rattle.rows.specs.declared.row.Longs.{Longs}
 use Rattle.rows.specs.declared.row.Longs.the-variants as longs
@@ -31,12 +31,14 @@ length-eights : (xs : List ℕ) → length (eights xs) ≡ 8 * length xs
 length-eights [] = omega arith
 length-eights (x ∷ xs) = simp (length-append, length-leBytes) (omega (arith, length-eights xs))
 
-longs-short : (l : Longs) → length (numbersOf l) ≤ 5
+longs-short : (l : Longs) → length (numbersOf l) ≤ 7
 longs-short (longs.One a) = omega arith
 longs-short (longs.Two a b) = omega arith
 longs-short (longs.Three a b c) = omega arith
 longs-short (longs.Four a b c d) = omega arith
 longs-short (longs.Five a b c d e) = omega arith
+longs-short (longs.Six a b c d e f) = omega arith
+longs-short (longs.Seven a b c d e f g) = omega arith
 
 opt-short : (a : Answer Place) → length (optPlace a) ≤ 17
 opt-short (value p) = omega (arith, length-eights (p .at ∷ p .len ∷ []))
@@ -88,11 +90,11 @@ constant-short v =
 pub row-short : (r : Row) → lengthOf (toldRow r) ≤ limit
 row-short (row.Plain l) = omega (arith, length-eights (numbersOf l), longs-short l)
 row-short (row.Words a b) = simp (length-append, length-leBytes) (omega arith)
-row-short (row.Chain l a) = simp (length-append, length-leBytes, length-eights) (omega (arith, longs-short l))
+row-short (row.Chain l next yielded) = simp (length-append, length-leBytes, length-eights) (omega (arith, longs-short l))
 row-short (row.Marked m l) = omega (arith, length-eights (numbersOf l), longs-short l)
 row-short (row.Half m a) = simp length-leBytes (omega arith)
 row-short (row.Word m a) = simp length-leBytes (omega arith)
 row-short (row.Import p f) = simp (length-append, length-leBytes) (omega (arith, opt-short (toldImpFile f)))
 row-short (row.Constant v) = omega (arith, constant-short v)
-row-short (row.Entry e c) = simp (length-append, length-leBytes) (omega arith)
+row-short (row.Entry e number c) = simp (length-append, length-leBytes) (omega arith)
 row-short (row.Refused n) = omega arith

@@ -52,6 +52,18 @@ pub five : {l : Longs} {a b c d e : ℕ} → l ≡ longs.Five a b c d e
 five {l} {a} {b} {c} {d} {e} h =
     ap (λ (k : List ℕ). value (leBytes 8 a ++ k)) (eights-append (b ∷ c ∷ []) (d ∷ e ∷ [])) ∙ shown longBytes h
 
+pub six : {l : Longs} {a b c d e f : ℕ} → l ≡ longs.Six a b c d e f
+    → value (eights (a ∷ b ∷ []) ++ (eights (c ∷ d ∷ []) ++ eights (e ∷ f ∷ []))) ≡ longBytes l
+six {l} {a} {b} {c} {d} {e} {f} h =
+    ap (λ (k : List ℕ). value (eights (a ∷ b ∷ []) ++ k)) (eights-append (c ∷ d ∷ []) (e ∷ f ∷ []))
+    ∙ ap value (eights-append (a ∷ b ∷ []) (c ∷ d ∷ e ∷ f ∷ [])) ∙ shown longBytes h
+
+pub seven : {l : Longs} {a b c d e f g : ℕ} → l ≡ longs.Seven a b c d e f g
+    → value (leBytes 8 a ++ (eights (b ∷ c ∷ []) ++ (eights (d ∷ e ∷ []) ++ eights (f ∷ g ∷ [])))) ≡ longBytes l
+seven {l} {a} {b} {c} {d} {e} {f} {g} h =
+    ap (λ (k : List ℕ). value (leBytes 8 a ++ (eights (b ∷ c ∷ []) ++ k))) (eights-append (d ∷ e ∷ []) (f ∷ g ∷ []))
+    ∙ ap (λ (k : List ℕ). value (leBytes 8 a ++ k)) (eights-append (b ∷ c ∷ []) (d ∷ e ∷ f ∷ g ∷ [])) ∙ shown longBytes h
+
 -- ---- references and constants
 
 pub import-laid : (info : Place) {x y : Answer Place} → x ≡ y → value (2 ∷ (place info ++ optPlace x)) ≡ value (reference (external info y))

@@ -22,8 +22,7 @@ use Rattle.table_cursors.specs.declared.iterators.ImportCursor.{ImportCursor}
 use Rattle.table_cursors.specs.declared.iterators.ImpFileCursor.{ImpFileCursor}
 use Rattle.table_cursors.specs.declared.iterators.NameCursor.{NameCursor}
 use Rattle.table_cursors.specs.declared.iterators.TypeInfoCursor.{TypeInfoCursor}
-use Rattle.cursors.specs.Cursors.{Step, yielded, ended}
-use Rattle.table_cursors.specs.Cursors.{NameYield, entry, over}
+use Rattle.cursors.specs.Numbers.{Step, yielded, ended}
 use Rattle.typelib.specs.References.{Resolved, internal, external}
 use Rattle.description.specs.Format.{leBytes}
 use Rattle.description.specs.Description.{Shape, shapeOf}
@@ -85,28 +84,28 @@ contentBytes Shape.text c = optPlace (placeIn c)
 unfoldable pub constant : ConstValue → List ℕ
 constant v = leBytes 2 (vtOf v) ++ contentBytes (shapeOf (vtOf v)) (contentOf v)
 
--- ---- cursors
+-- ---- cursors: how many records they have yielded stands last (document 02, §10); of typeinfos it is the index
 
 abbrev pub funcNumbers : FuncCursor → List ℕ
-funcNumbers c = c .pos ∷ c .end ∷ c .remaining ∷ []
+funcNumbers c = c .pos ∷ c .end ∷ c .remaining ∷ c .yielded ∷ []
 
 abbrev pub varNumbers : VarCursor → List ℕ
-varNumbers c = c .pos ∷ c .end ∷ c .remaining ∷ []
+varNumbers c = c .pos ∷ c .end ∷ c .remaining ∷ c .yielded ∷ []
 
 abbrev pub paramNumbers : ParamCursor → List ℕ
-paramNumbers c = c .pos ∷ c .end ∷ c .remaining ∷ []
+paramNumbers c = c .pos ∷ c .end ∷ c .remaining ∷ c .yielded ∷ []
 
 abbrev pub guidNumbers : GuidCursor → List ℕ
-guidNumbers c = c .pos ∷ c .end ∷ []
+guidNumbers c = c .pos ∷ c .end ∷ c .yielded ∷ []
 
 abbrev pub importNumbers : ImportCursor → List ℕ
-importNumbers c = c .pos ∷ c .end ∷ []
+importNumbers c = c .pos ∷ c .end ∷ c .yielded ∷ []
 
 abbrev pub impFileNumbers : ImpFileCursor → List ℕ
-impFileNumbers c = c .pos ∷ c .end ∷ []
+impFileNumbers c = c .pos ∷ c .end ∷ c .yielded ∷ []
 
 abbrev pub nameNumbers : NameCursor → List ℕ
-nameNumbers c = c .pos ∷ c .end ∷ c .start ∷ []
+nameNumbers c = c .pos ∷ c .end ∷ c .start ∷ c .yielded ∷ []
 
 abbrev pub typeinfoNumbers : TypeInfoCursor → List ℕ
 typeinfoNumbers c = c .index .0 ∷ []
@@ -115,17 +114,18 @@ typeinfoNumbers c = c .index .0 ∷ []
 abbrev pub cursor : {C : Type 0} → (C → List ℕ) → C → List ℕ
 cursor numbers c = eights (numbers c)
 
--- a step lays the record's place and the next cursor
-abbrev pub step : {C : Type 0} → (C → List ℕ) → Step C → Answer (List ℕ)
-step numbers (yielded p c) = value (eights (p .at ∷ p .len ∷ numbers c))
+-- a step lays the record's place, its number and the next cursor
+abbrev pub step : {C : Type 0} → (C → List ℕ) → Step Place C → Answer (List ℕ)
+step numbers (yielded p number c) = value (eights (p .at ∷ p .len ∷ number ∷ numbers c))
 step numbers (ended n c) = refused n
 
 -- the next offset of a chain is a 32-bit pattern
 abbrev pub chainCursor : ImplTypeCursor → List ℕ
-chainCursor c = eights (c .table .at ∷ c .table .len ∷ []) ++ leBytes 4 (c .next)
+chainCursor c = eights (c .table .at ∷ c .table .len ∷ []) ++ (leBytes 4 (c .next) ++ leBytes 8 (c .yielded))
 
-abbrev pub chainStep : Step ImplTypeCursor → Answer (List ℕ)
-chainStep (yielded p c) = value (eights (p .at ∷ p .len ∷ c .table .at ∷ c .table .len ∷ []) ++ leBytes 4 (c .next))
+abbrev pub chainStep : Step Place ImplTypeCursor → Answer (List ℕ)
+chainStep (yielded p number c) =
+    value (eights (p .at ∷ p .len ∷ number ∷ c .table .at ∷ c .table .len ∷ []) ++ (leBytes 4 (c .next) ++ leBytes 8 (c .yielded)))
 chainStep (ended n c) = refused n
 
 -- a name's entry: its offset, the place of its text, and the numbers before the text
@@ -134,6 +134,6 @@ nameEntry e =
     eights (e .offset ∷ e .text .at ∷ e .text .len ∷ [])
     ++ (leBytes 4 (ofZ w32 (e .hreftype)) ++ (leBytes 4 (ofZ w32 (e .«next_hash»)) ++ (leBytes 1 (e .flags) ++ leBytes 2 (e .hashcode))))
 
-abbrev pub entryStep : NameYield → Answer (List ℕ)
-entryStep (entry e c) = value (nameEntry e ++ cursor nameNumbers c)
-entryStep (over n c) = refused n
+abbrev pub entryStep : Step NameEntry NameCursor → Answer (List ℕ)
+entryStep (yielded e number c) = value (nameEntry e ++ eights (number ∷ nameNumbers c))
+entryStep (ended n c) = refused n

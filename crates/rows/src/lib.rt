@@ -45,7 +45,7 @@ ghost use Rattle.records.specs.Answer.{map, value};
 ghost use Rattle.records.specs.Told.{toldBound, toldGuid, toldPlace, toldUsize};
 ghost use Rattle.member_records.specs.Told.{toldVar};
 ghost use Rattle.impltypes.specs.Chain.{toldImplTypeStep, toldImplTypes, toldWalk};
-ghost use Rattle.cursors.specs.Cursors.{yielded};
+ghost use Rattle.cursors.specs.Numbers.{yielded};
 ghost use Rattle.typelib.specs.Told.{toldArrayDesc, toldDescription, toldImpFile, toldIndex, toldPair, toldHreftype, toldResolved, toldTypeInfo};
 ghost use Rattle.constants.specs.Told.{toldConst};
 ghost use Rattle.cursors.specs.Told.{toldFuncStep, toldFuncs, toldParamStep, toldParams, toldVarStep, toldVars};
@@ -210,10 +210,11 @@ pub fn of_funcs(a: FuncsAnswer) -> Row
     ensures { λ r. ⌜ toldRow r ≡ map (cursor funcNumbers) (toldFuncs a) ⌝ }
 {
     match a {
-        FuncsAnswer::Value(c) => Row::Plain(Longs::Three(
+        FuncsAnswer::Value(c) => Row::Plain(Longs::Four(
             c.pos as u64,
             c.end as u64,
             c.remaining as u64,
+            c.yielded,
         )),
         FuncsAnswer::Refused(n) => Row::Refused(n),
     }
@@ -223,10 +224,11 @@ pub fn of_vars(a: VarsAnswer) -> Row
     ensures { λ r. ⌜ toldRow r ≡ map (cursor varNumbers) (toldVars a) ⌝ }
 {
     match a {
-        VarsAnswer::Value(c) => Row::Plain(Longs::Three(
+        VarsAnswer::Value(c) => Row::Plain(Longs::Four(
             c.pos as u64,
             c.end as u64,
             c.remaining as u64,
+            c.yielded,
         )),
         VarsAnswer::Refused(n) => Row::Refused(n),
     }
@@ -236,10 +238,11 @@ pub fn of_params(a: ParamsAnswer) -> Row
     ensures { λ r. ⌜ toldRow r ≡ map (cursor paramNumbers) (toldParams a) ⌝ }
 {
     match a {
-        ParamsAnswer::Value(c) => Row::Plain(Longs::Three(
+        ParamsAnswer::Value(c) => Row::Plain(Longs::Four(
             c.pos as u64,
             c.end as u64,
             c.remaining as u64,
+            c.yielded,
         )),
         ParamsAnswer::Refused(n) => Row::Refused(n),
     }
@@ -249,7 +252,7 @@ pub fn of_guids(a: GuidsAnswer) -> Row
     ensures { λ r. ⌜ toldRow r ≡ map (cursor guidNumbers) (toldGuids a) ⌝ }
 {
     match a {
-        GuidsAnswer::Value(c) => Row::Plain(Longs::Two(c.pos as u64, c.end as u64)),
+        GuidsAnswer::Value(c) => Row::Plain(Longs::Three(c.pos as u64, c.end as u64, c.yielded)),
         GuidsAnswer::Refused(n) => Row::Refused(n),
     }
 }
@@ -258,7 +261,7 @@ pub fn of_imports(a: ImportsAnswer) -> Row
     ensures { λ r. ⌜ toldRow r ≡ map (cursor importNumbers) (toldImports a) ⌝ }
 {
     match a {
-        ImportsAnswer::Value(c) => Row::Plain(Longs::Two(c.pos as u64, c.end as u64)),
+        ImportsAnswer::Value(c) => Row::Plain(Longs::Three(c.pos as u64, c.end as u64, c.yielded)),
         ImportsAnswer::Refused(n) => Row::Refused(n),
     }
 }
@@ -267,7 +270,7 @@ pub fn of_imp_files(a: ImpFilesAnswer) -> Row
     ensures { λ r. ⌜ toldRow r ≡ map (cursor impFileNumbers) (toldImpFiles a) ⌝ }
 {
     match a {
-        ImpFilesAnswer::Value(c) => Row::Plain(Longs::Two(c.pos as u64, c.end as u64)),
+        ImpFilesAnswer::Value(c) => Row::Plain(Longs::Three(c.pos as u64, c.end as u64, c.yielded)),
         ImpFilesAnswer::Refused(n) => Row::Refused(n),
     }
 }
@@ -276,10 +279,11 @@ pub fn of_names(a: NamesAnswer) -> Row
     ensures { λ r. ⌜ toldRow r ≡ map (cursor nameNumbers) (toldNames a) ⌝ }
 {
     match a {
-        NamesAnswer::Value(c) => Row::Plain(Longs::Three(
+        NamesAnswer::Value(c) => Row::Plain(Longs::Four(
             c.pos as u64,
             c.end as u64,
             c.start as u64,
+            c.yielded,
         )),
         NamesAnswer::Refused(n) => Row::Refused(n),
     }
@@ -301,12 +305,14 @@ pub fn of_func_step(a: FuncStep) -> Row
     ensures { λ r. ⌜ toldRow r ≡ step funcNumbers (toldFuncStep a) ⌝ }
 {
     match a {
-        FuncStep::Record(p, c) => Row::Plain(Longs::Five(
+        FuncStep::Record(p, number, c) => Row::Plain(Longs::Seven(
             p.at as u64,
             p.len as u64,
+            number,
             c.pos as u64,
             c.end as u64,
             c.remaining as u64,
+            c.yielded,
         )),
         FuncStep::Refused(n, _) => Row::Refused(n),
     }
@@ -316,12 +322,14 @@ pub fn of_var_step(a: VarStep) -> Row
     ensures { λ r. ⌜ toldRow r ≡ step varNumbers (toldVarStep a) ⌝ }
 {
     match a {
-        VarStep::Record(p, c) => Row::Plain(Longs::Five(
+        VarStep::Record(p, number, c) => Row::Plain(Longs::Seven(
             p.at as u64,
             p.len as u64,
+            number,
             c.pos as u64,
             c.end as u64,
             c.remaining as u64,
+            c.yielded,
         )),
         VarStep::Refused(n, _) => Row::Refused(n),
     }
@@ -331,12 +339,14 @@ pub fn of_param_step(a: ParamStep) -> Row
     ensures { λ r. ⌜ toldRow r ≡ step paramNumbers (toldParamStep a) ⌝ }
 {
     match a {
-        ParamStep::Record(p, c) => Row::Plain(Longs::Five(
+        ParamStep::Record(p, number, c) => Row::Plain(Longs::Seven(
             p.at as u64,
             p.len as u64,
+            number,
             c.pos as u64,
             c.end as u64,
             c.remaining as u64,
+            c.yielded,
         )),
         ParamStep::Refused(n, _) => Row::Refused(n),
     }
@@ -346,11 +356,13 @@ pub fn of_guid_step(a: GuidStep) -> Row
     ensures { λ r. ⌜ toldRow r ≡ step guidNumbers (toldGuidStep a) ⌝ }
 {
     match a {
-        GuidStep::Record(p, c) => Row::Plain(Longs::Four(
+        GuidStep::Record(p, number, c) => Row::Plain(Longs::Six(
             p.at as u64,
             p.len as u64,
+            number,
             c.pos as u64,
             c.end as u64,
+            c.yielded,
         )),
         GuidStep::Refused(n, _) => Row::Refused(n),
     }
@@ -360,11 +372,13 @@ pub fn of_import_step(a: ImportStep) -> Row
     ensures { λ r. ⌜ toldRow r ≡ step importNumbers (toldImportStep a) ⌝ }
 {
     match a {
-        ImportStep::Record(p, c) => Row::Plain(Longs::Four(
+        ImportStep::Record(p, number, c) => Row::Plain(Longs::Six(
             p.at as u64,
             p.len as u64,
+            number,
             c.pos as u64,
             c.end as u64,
+            c.yielded,
         )),
         ImportStep::Refused(n, _) => Row::Refused(n),
     }
@@ -374,11 +388,13 @@ pub fn of_imp_file_step(a: ImpFileStep) -> Row
     ensures { λ r. ⌜ toldRow r ≡ step impFileNumbers (toldImpFileStep a) ⌝ }
 {
     match a {
-        ImpFileStep::Record(p, c) => Row::Plain(Longs::Four(
+        ImpFileStep::Record(p, number, c) => Row::Plain(Longs::Six(
             p.at as u64,
             p.len as u64,
+            number,
             c.pos as u64,
             c.end as u64,
+            c.yielded,
         )),
         ImpFileStep::Refused(n, _) => Row::Refused(n),
     }
@@ -388,9 +404,9 @@ pub fn of_typeinfo_step(a: TypeInfoStep) -> Row
     ensures { λ r. ⌜ toldRow r ≡ step typeinfoNumbers (toldTypeInfoStep a) ⌝ }
 {
     match a {
-        TypeInfoStep::Record(p, c) => {
+        TypeInfoStep::Record(p, number, c) => {
             let index = c.index;
-            Row::Plain(Longs::Three(p.at as u64, p.len as u64, index.0 as u64))
+            Row::Plain(Longs::Four(p.at as u64, p.len as u64, number, index.0 as u64))
         }
         TypeInfoStep::Refused(n, _) => Row::Refused(n),
     }
@@ -409,25 +425,26 @@ fn chain(c: ImplTypeCursor) -> Row
     ensures { λ r. ⌜ toldRow r ≡ value (chainCursor c) ⌝ }
 {
     let t = c.table;
-    Row::Chain(Longs::Two(t.at as u64, t.len as u64), c.next)
+    Row::Chain(Longs::Two(t.at as u64, t.len as u64), c.next, c.yielded)
 }
 
 pub fn of_impl_type_step(a: ImplTypeStep) -> Row
     ensures { λ r. ⌜ toldRow r ≡ chainStep (toldImplTypeStep a) ⌝ }
 {
     match a {
-        ImplTypeStep::Record(p, c) => link(p, c),
+        ImplTypeStep::Record(p, number, c) => link(p, number, c),
         ImplTypeStep::Refused(n, _) => Row::Refused(n),
     }
 }
 
-fn link(p: RefRecord, c: ImplTypeCursor) -> Row
-    ensures { λ r. ⌜ toldRow r ≡ chainStep (yielded (record { at = p .at; len = p .len }) c) ⌝ }
+fn link(p: RefRecord, number: u64, c: ImplTypeCursor) -> Row
+    ensures { λ r. ⌜ toldRow r ≡ chainStep (yielded (record { at = p .at; len = p .len }) number c) ⌝ }
 {
     let t = c.table;
     Row::Chain(
-        Longs::Four(p.at as u64, p.len as u64, t.at as u64, t.len as u64),
+        Longs::Five(p.at as u64, p.len as u64, number, t.at as u64, t.len as u64),
         c.next,
+        c.yielded,
     )
 }
 
@@ -435,7 +452,7 @@ pub fn of_name_step(a: NameStep) -> Row
     ensures { λ r. ⌜ toldRow r ≡ entryStep (toldNameStep a) ⌝ }
 {
     match a {
-        NameStep::Record(e, c) => Row::Entry(e, c),
+        NameStep::Record(e, number, c) => Row::Entry(e, number, c),
         NameStep::Refused(n, _) => Row::Refused(n),
     }
 }

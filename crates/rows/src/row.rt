@@ -12,13 +12,15 @@ pub enum Longs {
     Three(u64, u64, u64),
     Four(u64, u64, u64, u64),
     Five(u64, u64, u64, u64, u64),
+    Six(u64, u64, u64, u64, u64, u64),
+    Seven(u64, u64, u64, u64, u64, u64, u64),
 }
 
 pub enum Row {
     Plain(Longs),
     Words(u32, u32),
-    // A chain's cursor, and a record before it: the next offset has four bytes.
-    Chain(Longs, u32),
+    // A chain's cursor, and a record and its number before it: the next offset has four bytes.
+    Chain(Longs, u32, u64),
     // A code of one byte, and what it announces.
     Marked(u8, Longs),
     Half(u8, u16),
@@ -26,6 +28,7 @@ pub enum Row {
     // The record of an import, and the file that it names.
     Import(Place, ImpFileAnswer),
     Constant(ConstValue),
-    Entry(NameEntry, NameCursor),
+    // An entry, its number, and the cursor behind it.
+    Entry(NameEntry, u64, NameCursor),
     Refused(u8),
 }

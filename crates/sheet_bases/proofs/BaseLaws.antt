@@ -14,14 +14,15 @@ use Rattle.records.specs.declared.typeinfo.TypeInfoEntry.{TypeInfoEntry}
 use Rattle.records.specs.Answer.{Answer, value, refused, map}
 use Rattle.typelib.specs.declared.TypeLib.{TypeLib}
 use Rattle.impltypes.specs.declared.ImplTypeCursor.{ImplTypeCursor}
-use Rattle.impltypes.specs.Chain.{implTypesOf, offsetAt, walkOf, placeAt, recordsOf, cursorAt, implTypeStep}
-use Rattle.impltypes.specs.ChainLaws.{walk-took, step-along}
-use Rattle.cursors.specs.Cursors.{yielded, ended}
+use Rattle.impltypes.specs.Chain.{ChainAt, overImplTypes, implTypesOf, offsetAt, walkOf, placeAt, recordsFrom, standsAt, implTypeNext, implTypeStep}
+use Rattle.impltypes.specs.ChainLaws.{walk-took, next-along}
+use Rattle.cursors.specs.Numbers.{item, stop, yielded, ended}
+use Rattle.cursors.specs.NumberLaws.{step-yields, step-ends}
 use Rattle.typelib.specs.Tabulate.{tabulate, length-tabulate, getD-tabulate}
 use Rattle.description.specs.Format.{encode, list, joined, leBytes}
 use Rattle.description.specs.Description.{BaseShape, baseShapeOf}
 use Rattle.description.specs.Description.BaseShape.{absent, parent, implTypes, aliased}
-use Rattle.description.specs.Sheet.{edition-one, u32, reference, tree, implType, base}
+use Rattle.description.specs.Sheet.{edition-one, u32, reference, tree, implType}
 use Rattle.describe.specs.References.{referenceOf}
 use Rattle.describe.specs.Trees.{treeOf}
 use Rattle.describe.specs.Types.{implTypeAt, implTypesAt}
@@ -38,9 +39,12 @@ module _ (s : List ℕ) (lib : TypeLib) where
   link-is p {href} e = rw e
 
   module _ (c : ImplTypeCursor) (n : ℕ) where
+    abbrev from : ChainAt
+    from = overImplTypes .stands c
+
     -- the cursor stands at the k-th record
     pub record At (k : ℕ) (d : ImplTypeCursor) : Type 0 where
-      pub is : d ≡ cursorAt s c k
+      pub is : overImplTypes .stands d ≡ standsAt s from k
       pub most : k ≤ n
 
     pub at-start : At 0 c
@@ -48,44 +52,49 @@ module _ (s : List ℕ) (lib : TypeLib) where
     at-start = record { is = refl; most = omega arith }
 
     module _ (walked : value n ≡ walkOf s c) (k : ℕ) (h : k < n) {d : ImplTypeCursor} (a : At k d) where
-      along : yielded (placeAt s c k) (cursorAt s c (suc k)) ≡ implTypeStep s d
-      along = let w = walk-took s c n .0 walked in step-along s c k (w .0) (w .1 .passes k h) ∙ ap (implTypeStep s) (sym (a .is))
+      along : item (placeAt s from k) (standsAt s from (suc k)) ≡ implTypeNext s (overImplTypes .stands d)
+      along = let w = walk-took s from n .0 walked in next-along s from k (w .0) (w .1 .passes k h) ∙ ap (implTypeNext s) (sym (a .is))
 
-      pub at-next : {p : Place} {e : ImplTypeCursor} → yielded p e ≡ implTypeStep s d → At (k + 1) e
-      at-next {p} {e} q =
-          let g : e ≡ cursorAt s c (suc k) = let z : yielded p e ≡ yielded (placeAt s c k) (cursorAt s c (suc k)) = q ∙ sym along in cc in
-          record { is = g ∙ ap (cursorAt s c) (sym (add-one k)); most = omega arith }
+      stepped : {p : Place} {m : ℕ} {e : ImplTypeCursor} → yielded p m e ≡ implTypeStep s d → item p (overImplTypes .stands e) ≡ item (placeAt s from k) (standsAt s from (suc k))
+      stepped {p} {m} {e} q = step-yields overImplTypes (implTypeNext s) d e p m q .found ∙ sym along
 
-      pub at-place : {p : Place} {e : ImplTypeCursor} → yielded p e ≡ implTypeStep s d → p ≡ placeAt s c k
-      at-place {p} {e} q = let z : yielded p e ≡ yielded (placeAt s c k) (cursorAt s c (suc k)) = q ∙ sym along in cc
+      pub at-next : {p : Place} {m : ℕ} {e : ImplTypeCursor} → yielded p m e ≡ implTypeStep s d → At (k + 1) e
+      at-next {e = e} q =
+          let g : overImplTypes .stands e ≡ standsAt s from (suc k) = let z = stepped q in cc in
+          record { is = g ∙ ap (standsAt s from) (sym (add-one k)); most = omega arith }
+
+      pub at-place : {p : Place} {m : ℕ} {e : ImplTypeCursor} → yielded p m e ≡ implTypeStep s d → p ≡ placeAt s from k
+      at-place q = let z = stepped q in cc
 
       -- the walk took it, so it is there
       pub at-end : {X : Type 0} {m : ℕ} {e : ImplTypeCursor} → ended m e ≡ implTypeStep s d → X
-      at-end {X} {m} {e} q = absurd (let z : yielded (placeAt s c k) (cursorAt s c (suc k)) ≡ ended m e = along ∙ sym q in let y : _≡_ {A = ℕ} 0 1 = cc in omega arith)
+      at-end {X} {m} {e} q =
+          let z : item (placeAt s from k) (standsAt s from (suc k)) ≡ stop m (overImplTypes .stands e) = along ∙ sym (step-ends overImplTypes (implTypeNext s) d e m q .none) in
+          absurd (let y : _≡_ {A = ℕ} 0 1 = cc in omega arith)
 
-    pub links-more : (k : ℕ) {p : Place} → k < n → p ≡ placeAt s c k
+    pub links-more : (k : ℕ) {p : Place} → k < n → p ≡ placeAt s from k
         → value (linksBytes s lib c n k) ≡ value (encode (implType edition-one (typeCount lib)) (implTypeAt s lib p)) ▸ value (linksBytes s lib c n (k + 1))
     unfolding linksBytes
     links-more k {p} h e =
-        let l : k < length (tabulate (placeAt s c) n) = omega (arith, length-tabulate (placeAt s c) n) in
-        let q : drop k (tabulate (placeAt s c) n) ≡ placeAt s c k ∷ drop (k + 1) (tabulate (placeAt s c) n) =
-        rw (add-one k) (drop-cons (tabulate (placeAt s c) n) k (placeAt s c k) l ∙ ap (λ x. x ∷ drop (suc k) (tabulate (placeAt s c) n)) (getD-tabulate (placeAt s c) n k (placeAt s c k) h)) in
+        let l : k < length (tabulate (placeAt s from) n) = omega (arith, length-tabulate (placeAt s from) n) in
+        let q : drop k (tabulate (placeAt s from) n) ≡ placeAt s from k ∷ drop (k + 1) (tabulate (placeAt s from) n) =
+        rw (add-one k) (drop-cons (tabulate (placeAt s from) n) k (placeAt s from k) l ∙ ap (λ x. x ∷ drop (suc k) (tabulate (placeAt s from) n)) (getD-tabulate (placeAt s from) n k (placeAt s from k) h)) in
         rw (q, e)
 
     pub links-none : (k : ℕ) → n ≤ k → value (linksBytes s lib c n k) ≡ value []
     unfolding linksBytes
-    links-none k h = rw (drop-of-length-le (tabulate (placeAt s c) n) {i = k} (omega (arith, length-tabulate (placeAt s c) n)))
+    links-none k h = rw (drop-of-length-le (tabulate (placeAt s from) n) {i = k} (omega (arith, length-tabulate (placeAt s from) n)))
 
     pub walked-is : (a : Answer ℕ) → a ≡ walkOf s c → a ≡ value n → value (leBytes 4 n) ▸ value (linksBytes s lib c n 0) ≡ chainEmitted s lib c
-    unfolding chainEmitted recordsOf linksBytes
+    unfolding chainEmitted recordsFrom linksBytes
     walked-is a e f =
         let q : walkOf s c ≡ value n = sym e ∙ f in
-        let l : length (lists.map (implTypeAt s lib) (tabulate (placeAt s c) n)) ≡ n =
-        length-map (tabulate (placeAt s c) n) (implTypeAt s lib) ∙ length-tabulate (placeAt s c) n in
-        rw q (ap (λ m. value (leBytes 4 m ++ joined (implType edition-one (typeCount lib)) (lists.map (implTypeAt s lib) (tabulate (placeAt s c) n)))) (sym l))
+        let l : length (lists.map (implTypeAt s lib) (tabulate (placeAt s from) n)) ≡ n =
+        length-map (tabulate (placeAt s from) n) (implTypeAt s lib) ∙ length-tabulate (placeAt s from) n in
+        rw q (ap (λ m. value (leBytes 4 m ++ joined (implType edition-one (typeCount lib)) (lists.map (implTypeAt s lib) (tabulate (placeAt s from) n)))) (sym l))
 
   pub walked-refused : (c : ImplTypeCursor) (a : Answer ℕ) {n : ℕ} → a ≡ walkOf s c → a ≡ refused n → refused n ≡ chainEmitted s lib c
-  unfolding chainEmitted recordsOf
+  unfolding chainEmitted recordsFrom
   walked-refused c a {n} e f = let q : walkOf s c ≡ refused n = sym e ∙ f in rw q
 
   module _ (ti : TypeInfoEntry) (a : Answer ImplTypeCursor) (e : a ≡ implTypesOf s lib ti) where

@@ -9,7 +9,7 @@ use Rattle.records.specs.Answer.{Answer, value, map}
 use Rattle.typelib.specs.declared.TypeLib.{TypeLib}
 use Rattle.typelib.specs.Header.{typeCount}
 use Rattle.impltypes.specs.declared.ImplTypeCursor.{ImplTypeCursor}
-use Rattle.impltypes.specs.Chain.{placeAt, recordsOf}
+use Rattle.impltypes.specs.Chain.{overImplTypes, placeAt, recordsOf}
 use Rattle.typelib.specs.Tabulate.{tabulate}
 use Rattle.description.specs.Format.{encode, list, joined}
 use Rattle.description.specs.Description.{Bytes, BaseShape, baseShapeOf}
@@ -29,7 +29,7 @@ chainEmitted s lib c = map (encode (list u32 (implType edition-one (typeCount li
 
 -- of the first n records of the chain, those from the k-th on
 unfoldable pub linksBytes : List ℕ → TypeLib → ImplTypeCursor → ℕ → ℕ → Bytes
-linksBytes s lib c n k = joined (implType edition-one (typeCount lib)) (lists.map (implTypeAt s lib) (drop k (tabulate (placeAt s c) n)))
+linksBytes s lib c n k = joined (implType edition-one (typeCount lib)) (lists.map (implTypeAt s lib) (drop k (tabulate (placeAt s (overImplTypes .stands c)) n)))
 
 -- the chain of a typeinfo, and a record of it
 abbrev pub implTypesEmitted : List ℕ → TypeLib → TypeInfoEntry → Answer Bytes

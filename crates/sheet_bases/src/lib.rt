@@ -81,7 +81,7 @@ fn put_links(
     let mut c = cursor;
     let mut k: usize = 0;
     while k < count {
-        let ImplTypeStep::Record(link, next) = c.step(&*s) else {
+        let ImplTypeStep::Record(link, _, next) = c.step(&*s) else {
             return t;
         };
         t = put_link(&*s, lib, link, out, t);

@@ -18,7 +18,9 @@ use Rattle.typelib.specs.declared.TypeLib.{TypeLib}
 use Rattle.typelib.specs.Tables.{lent}
 use Rattle.typelib.specs.TableLaws.{lent-fits}
 use Rattle.cursors.specs.declared.iterators.ParamCursor.{ParamCursor}
-use Rattle.cursors.specs.Cursors.{Step, yielded, fixedAt, paramCursor, paramsOf, paramAt, paramStepFrom, paramStep}
+use Rattle.cursors.specs.Numbers.{numberOf, Step, yielded}
+use Rattle.cursors.specs.NumberLaws.{number-next, step-found, param-takes}
+use Rattle.cursors.specs.Cursors.{BlockAt, overParams, fixedAt, paramCursor, paramsOf, paramAt, paramNextFrom, paramNext, paramStep}
 use Rattle.cursors.specs.CursorLaws.{fixed-there, param-some}
 use Rattle.description.specs.Format.{encode}
 use Rattle.description.specs.Description.{Bytes}
@@ -26,7 +28,6 @@ use Rattle.description.specs.Sheet.{edition-one, parameter}
 use Rattle.describe.specs.Answers.{IfValue, told, anything, answers-bind, answers-map, answers-value}
 use Rattle.describe.specs.Values.{numbered}
 use Rattle.describe.specs.Members.{onward, yields, parameterOf}
-use Rattle.describe.specs.YieldLaws.{param-yielded}
 use Rattle.emit.specs.Emit.{_▸_}
 use Rattle.sheet_members.specs.Lists.{layAll, laid-more}
 use Rattle.sheet_members.specs.Room.{Room}
@@ -36,8 +37,8 @@ module _ (s : List ℕ) where
   unfolding paramCursor
   cursor-room p n h =
       cond-elim (Room s) (ltb (p .len) (12 * n)) _ _
-      (λ _. record { few = h .few; whole = omega arith; inside = omega arith })
-      (λ k. record { few = h .few; whole = omega (arith, ltb-false (p .len) (12 * n) k); inside = h .inside })
+      (λ _. record { few = h .few; first = refl; whole = omega arith; inside = omega arith })
+      (λ k. record { few = h .few; first = refl; whole = omega (arith, ltb-false (p .len) (12 * n) k); inside = h .inside })
 
   params-room : (f : FuncRecord) → IfValue (Room s) (paramsOf s f)
   params-room f =
@@ -51,48 +52,54 @@ module _ (s : List ℕ) where
   module _ (c : ParamCursor) where
     -- the cursor after i steps
     abbrev pub after : ℕ → ParamCursor
-    after i = record { pos = c .pos + 12 * i; end = c .end; remaining = c .remaining - i }
+    after i = record { pos = c .pos + 12 * i; end = c .end; remaining = c .remaining - i; yielded = numberOf i }
 
-    step : (i : ℕ) → Room s c → i < c .remaining → yielded (record { at = c .pos + 12 * i; len = 12 }) (after (i + 1)) ≡ paramStep s (after i)
+    step : (i : ℕ) → Room s c → i < c .remaining → yielded (record { at = c .pos + 12 * i; len = 12 }) (numberOf i) (after (i + 1)) ≡ paramStep s (after i)
     step i r h =
-        let e : value (record { at = c .pos + 12 * i; len = 12 }) ≡ lent s (paramAt s (after i)) =
+        let at : BlockAt = overParams .stands (after i) in
+        let e : value (record { at = c .pos + 12 * i; len = 12 }) ≡ lent s (paramAt s at) =
         lent-fits s (fixedAt s (c .pos + 12 * i) (c .end) 12) _ (r .few)
         (fixed-there s (c .pos + 12 * i) (c .end) 12 (omega (arith, r .whole)) (omega (arith, r .whole, r .inside)))
-        ∙ param-some s (after i) (λ z. omega (arith, z)) in
+        ∙ param-some s at (λ z. omega (arith, z)) in
         let p : c .pos + 12 * (i + 1) ≡ c .pos + 12 * i + 12 = omega arith in
         let q : c .remaining - (i + 1) ≡ c .remaining - i - 1 = omega arith in
-        rw (p, q) (ap (paramStepFrom (after i)) e)
+        rw (p, q) (step-found overParams (paramNext s) (after i) _ _ (numberOf (i + 1)) (ap (paramNextFrom at) e) (sym (number-next i)))
+
+    -- it is the one that was given before any step
+    after-none : Room s c → after 0 ≡ c
+    unfolding numberOf
+    after-none r =
+        let p : c .pos + 12 * 0 ≡ c .pos = omega arith in
+        let q : c .remaining - 0 ≡ c .remaining = omega arith in
+        rw (p, q, ← r .first)
 
     yields-on : (k i : ℕ) → Room s c → i + k ≡ c .remaining → k ≡ length (yields (paramStep s) k (after i))
     unfolding yields
     yields-on zero i r h = refl
     yields-on (suc k) i r h =
         ap suc (yields-on k (i + 1) r (omega arith))
-        ∙ ap (λ (x : Step ParamCursor). length (onward (yields (paramStep s) k) x)) (step i r (omega arith))
+        ∙ ap (λ (x : Step Place ParamCursor). length (onward (yields (paramStep s) k) x)) (step i r (omega arith))
 
     -- as many are yielded as remain
     pub all-yielded : Room s c → c .remaining ≡ length (yields (paramStep s) (c .remaining) c)
-    all-yielded r =
-        let p : c .pos + 12 * 0 ≡ c .pos = omega arith in
-        let q : c .remaining - 0 ≡ c .remaining = omega arith in
-        yields-on (c .remaining) 0 r (omega arith) ∙ rw (p, q) refl
+    all-yielded r = yields-on (c .remaining) 0 r (omega arith) ∙ ap (λ (x : ParamCursor). length (yields (paramStep s) (c .remaining) x)) (after-none r)
 
     module _ (lib : TypeLib) (f : FuncRecord) where
       -- the parameters from i on
       abbrev pub laidFrom : ℕ → Answer Bytes
       laidFrom i = layAll (parameter edition-one (typeCount lib)) (numbered (parameterOf s lib f) i (yields (paramStep s) (c .remaining - i) (after i)))
 
-      pub laid-all : laidFrom 0 ≡ layAll (parameter edition-one (typeCount lib)) (numbered (parameterOf s lib f) 0 (yields (paramStep s) (c .remaining) c))
-      laid-all =
-          let p : c .pos + 12 * 0 ≡ c .pos = omega arith in
+      pub laid-all : Room s c → laidFrom 0 ≡ layAll (parameter edition-one (typeCount lib)) (numbered (parameterOf s lib f) 0 (yields (paramStep s) (c .remaining) c))
+      laid-all r =
           let q : c .remaining - 0 ≡ c .remaining = omega arith in
-          rw (p, q) refl
+          ap (λ (x : ParamCursor). layAll (parameter edition-one (typeCount lib)) (numbered (parameterOf s lib f) 0 (yields (paramStep s) (c .remaining - 0) x))) (after-none r)
+          ∙ ap (λ (n : ℕ). layAll (parameter edition-one (typeCount lib)) (numbered (parameterOf s lib f) 0 (yields (paramStep s) n c))) q
 
       pub laid-one : (i : ℕ) → Room s c → i < c .remaining
           → laidFrom i ≡ map (encode (parameter edition-one (typeCount lib))) (parameterOf s lib f i (record { at = c .pos + 12 * i; len = 12 })) ▸ laidFrom (i + 1)
       laid-one i r h =
           laid-more (paramStep s) (λ (x : ParamCursor). x .remaining) (parameter edition-one (typeCount lib)) (parameterOf s lib f) i
-          (param-yielded s (after i) (after (i + 1)) _ (step i r h) .lessens) (step i r h)
+          (param-takes .takes (step i r h)) (step i r h)
 
       pub laid-end : (i : ℕ) → c .remaining ≤ i → laidFrom i ≡ value []
       unfolding layAll numbered yields

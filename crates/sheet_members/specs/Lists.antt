@@ -5,14 +5,14 @@ use Prim.Native.Nat.{ℕ, zero, suc, _+_}
 use native.Mathlib.Omega.{arith}
 use lib.ListN.{length}
 use Rattle.records.specs.declared.answer.Place.{Place}
-use Rattle.records.specs.Answer.{Answer, value, refused, map, bind}
-use Rattle.cursors.specs.Cursors.{Step, yielded, ended}
+use Rattle.records.specs.Answer.{Answer, value, refused, map}
+use Rattle.cursors.specs.Numbers.{Step, yielded, ended}
+use Rattle.cursors.specs.NumberLaws.{Lessens, Turn}
 use Rattle.description.specs.Format.{Format, encode, list, joined, leBytes}
 use Rattle.description.specs.Description.{Bytes}
 use Rattle.description.specs.Sheet.{u16}
 use Rattle.describe.specs.Values.{andThen, all, numbered}
-use Rattle.describe.specs.Members.{onward, yields}
-use Rattle.describe.specs.YieldLaws.{Lessens}
+use Rattle.describe.specs.Members.{yields}
 use Rattle.emit.specs.Emit.{_▸_}
 
 -- ---- each answer, one behind the other, up to the first refusal
@@ -62,11 +62,11 @@ numbered-length f i (p ∷ ps) = ap suc (numbered-length f (i + 1) ps)
 
 -- ---- the records that a cursor yields, one by one
 
-module _ {C : Type 0} (step : C → Step C) (left : C → ℕ) where
+module _ {C : Type 0} (step : C → Step Place C) (left : C → ℕ) where
   abbrev pub places : C → List Place
   places c = yields step (left c) c
 
-  pub places-more : {c d : C} {p : Place} → Lessens left c d → yielded p d ≡ step c → places c ≡ p ∷ places d
+  pub places-more : {c d : C} {p : Place} {k : ℕ} → Lessens left c d → yielded p k d ≡ step c → places c ≡ p ∷ places d
   unfolding yields
   places-more {c} {d} {p} l e = by (left c) (omega (arith, l .some, l .fewer))
     where
@@ -83,7 +83,7 @@ module _ {C : Type 0} (step : C → Step C) (left : C → ℕ) where
 
   -- a turn of a loop that emits each of them, and its end
   module _ {A : Type 0} (F : Format A) (f : ℕ → Place → Answer A) (i : ℕ) where
-    pub laid-more : {c d : C} {p : Place} → Lessens left c d → yielded p d ≡ step c
+    pub laid-more : {c d : C} {p : Place} {k : ℕ} → Lessens left c d → yielded p k d ≡ step c
         → layAll F (numbered f i (places c)) ≡ map (encode F) (f i p) ▸ layAll F (numbered f (i + 1) (places d))
     unfolding layAll numbered
     laid-more {c} {d} {p} l e = rw (places-more l e)
@@ -92,10 +92,17 @@ module _ {C : Type 0} (step : C → Step C) (left : C → ℕ) where
     unfolding layAll numbered
     laid-none {c} {d} {n} e = rw (places-none e)
 
-  -- a turn of a loop that counts them, and its end
-  pub counted-more : {c d : C} {p : Place} (n whole : ℕ) → Lessens left c d → yielded p d ≡ step c
-      → n + length (places c) ≡ whole → n + 1 + length (places d) ≡ whole
-  counted-more {c} {d} {p} n whole l e h = omega (arith, h, ap length (places-more l e))
+  -- the same by the cursor's own numbers
+  module _ (count : C → ℕ) {c d : C} {p : Place} {k : ℕ} (t : Turn left count c d k) (e : yielded p k d ≡ step c) where
+    pub laid-turn : {A : Type 0} (F : Format A) (f : ℕ → Place → Answer A)
+        → layAll F (numbered f (count c) (places c)) ≡ map (encode F) (f k p) ▸ layAll F (numbered f (count d) (places d))
+    laid-turn F f =
+        laid-more F f (count c) (t .lessens) e
+        ∙ ap (λ (n : ℕ). map (encode F) (f n p) ▸ layAll F (numbered f (count c + 1) (places d))) (sym (t .number))
+        ∙ ap (λ (n : ℕ). map (encode F) (f k p) ▸ layAll F (numbered f n (places d))) (sym (t .more))
+
+    pub counted-turn : (whole : ℕ) → count c + length (places c) ≡ whole → count d + length (places d) ≡ whole
+    counted-turn whole h = omega (arith, h, t .more, ap length (places-more (t .lessens) e))
 
   pub counted-none : {c d : C} {m : ℕ} (n whole : ℕ) → ended m d ≡ step c → n + length (places c) ≡ whole → n ≡ whole
   counted-none {c} {d} {m} n whole e h = omega (arith, h, ap length (places-none e))

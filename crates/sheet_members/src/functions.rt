@@ -56,25 +56,31 @@ fn put_each(
     out: &mut [u8],
     to: usize,
 ) -> Listed
+    requires { ⌜ cursor .yielded ≡ 0 ⌝ }
     ensures { λ r. ⌜ FunctionsPut (now (s .entry)) (library (now (lib .entry))) ti cursor to (now (out .entry)) r (now (out .exit)) ⌝ }
 {
     let rows = words::func_rows(&*s, ti);
     let names = names::names_of(&*s, lib);
     let mut t = to;
     let mut c = cursor;
-    let mut i: usize = 0;
     loop {
         if emit::PAST < t {
-            return Listed { to: t, count: i };
+            return Listed {
+                to: t,
+                count: c.yielded as usize,
+            };
         }
-        let FuncStep::Record(func, next) = c.step(&*s) else {
-            return Listed { to: t, count: i };
+        let FuncStep::Record(func, number, next) = c.step(&*s) else {
+            return Listed {
+                to: t,
+                count: c.yielded as usize,
+            };
         };
+        let i = number as usize;
         let memid = words::word(&*s, rows.memids, i);
         let name_offset = words::word(&*s, rows.names, i);
         t = put_function(&*s, lib, names, ti, i, memid, name_offset, func, out, t);
         c = next;
-        i += 1;
     }
 }
 

@@ -11,6 +11,7 @@ use sheet_trees::trees;
 use sheet_trees::values;
 use typelib::Numbers;
 use typelib::typeinfos;
+ghost use mathlib.Core.Path.{_≡_};
 ghost use Rattle.records.specs.Told.{toldI32};
 ghost use Rattle.emit.specs.Emit.{Emits};
 ghost use Rattle.sheet_members.specs.Emitted.{VariablesPut, valueEmitted, variableEmitted, variablesEmitted};
@@ -43,21 +44,26 @@ fn put_each(
     out: &mut [u8],
     to: usize,
 ) -> Listed
+    requires { ⌜ cursor .yielded ≡ 0 ⌝ }
     ensures { λ r. ⌜ VariablesPut (now (s .entry)) (library (now (lib .entry))) ti cursor to (now (out .entry)) r (now (out .exit)) ⌝ }
 {
     let mut t = to;
     let mut c = cursor;
-    let mut i: usize = 0;
     loop {
         if emit::PAST < t {
-            return Listed { to: t, count: i };
+            return Listed {
+                to: t,
+                count: c.yielded as usize,
+            };
         }
-        let VarStep::Record(var, next) = c.step(&*s) else {
-            return Listed { to: t, count: i };
+        let VarStep::Record(var, number, next) = c.step(&*s) else {
+            return Listed {
+                to: t,
+                count: c.yielded as usize,
+            };
         };
-        t = put_variable(&*s, lib, ti, i, var, out, t);
+        t = put_variable(&*s, lib, ti, number as usize, var, out, t);
         c = next;
-        i += 1;
     }
 }
 

@@ -44,7 +44,7 @@ fn after_links(s: &[u8], lib: &Numbers, cursor: ImplTypeCursor, to: usize) -> us
     let mut c = cursor;
     let mut n: usize = 0;
     loop {
-        let ImplTypeStep::Record(link, next) = c.step(&*s) else {
+        let ImplTypeStep::Record(link, _, next) = c.step(&*s) else {
             return t;
         };
         if s.len() - 15 <= n {

@@ -12,6 +12,7 @@ use records::typeinfo::TypeInfoEntry;
 use sheet_members::words;
 use sheet_trees::names::Names;
 use typelib::Numbers;
+ghost use mathlib.Core.Path.{_≡_};
 ghost use Rattle.records.specs.Told.{toldI32};
 ghost use Rattle.sheet_trees.specs.Names.{Near};
 ghost use Rattle.sheet_sizes.specs.Measured.{Measured};
@@ -38,25 +39,25 @@ pub(crate) fn after_functions(s: &[u8], lib: &Numbers, ti: TypeInfoEntry, to: us
 
 // Each function that the cursor yields. (A refusal ends it at once: it stays.)
 fn after_each(s: &[u8], lib: &Numbers, ti: TypeInfoEntry, cursor: FuncCursor, to: usize) -> usize
+    requires { ⌜ cursor .yielded ≡ 0 ⌝ }
     ensures { λ r. ⌜ Measured (functionsFrom (now (s .entry)) (library (now (lib .entry))) ti cursor) to r ⌝ }
 {
     let rows = words::func_rows(&*s, ti);
     let names = sheet_trees::names::names_of(&*s, lib);
     let mut t = to;
     let mut c = cursor;
-    let mut i: usize = 0;
     loop {
         if emit::PAST < t {
             return t;
         }
-        let FuncStep::Record(func, next) = c.step(&*s) else {
+        let FuncStep::Record(func, number, next) = c.step(&*s) else {
             return t;
         };
+        let i = number as usize;
         let memid = words::word(&*s, rows.memids, i);
         let name_offset = words::word(&*s, rows.names, i);
         t = after_function(&*s, lib, names, memid, name_offset, func, t);
         c = next;
-        i += 1;
     }
 }
 

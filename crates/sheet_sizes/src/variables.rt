@@ -10,6 +10,7 @@ use records::typeinfo::TypeInfoEntry;
 use sheet_trees::names::Names;
 use typelib::Numbers;
 use typelib::typeinfos;
+ghost use mathlib.Core.Path.{_≡_};
 ghost use Rattle.sheet_trees.specs.Names.{Near};
 ghost use Rattle.sheet_sizes.specs.Measured.{Measured};
 ghost use Rattle.sheet_members.specs.Emitted.{valueEmitted, variableEmitted, variablesEmitted, variablesFrom};
@@ -27,22 +28,21 @@ pub(crate) fn after_variables(s: &[u8], lib: &Numbers, ti: TypeInfoEntry, to: us
 
 // Each variable that the cursor yields. (A refusal ends it at once: it stays.)
 fn after_each(s: &[u8], lib: &Numbers, ti: TypeInfoEntry, cursor: VarCursor, to: usize) -> usize
+    requires { ⌜ cursor .yielded ≡ 0 ⌝ }
     ensures { λ r. ⌜ Measured (variablesFrom (now (s .entry)) (library (now (lib .entry))) ti cursor) to r ⌝ }
 {
     let names = sheet_trees::names::names_of(&*s, lib);
     let mut t = to;
     let mut c = cursor;
-    let mut i: usize = 0;
     loop {
         if emit::PAST < t {
             return t;
         }
-        let VarStep::Record(var, next) = c.step(&*s) else {
+        let VarStep::Record(var, number, next) = c.step(&*s) else {
             return t;
         };
-        t = after_variable(&*s, lib, names, ti, i, var, t);
+        t = after_variable(&*s, lib, names, ti, number as usize, var, t);
         c = next;
-        i += 1;
     }
 }
 

@@ -16,34 +16,30 @@ use Rattle.records.specs.Counted.{impFileSize, textOf}
 use Rattle.records.specs.Record.{limit, partOf}
 use Rattle.typelib.specs.declared.TypeLib.{TypeLib}
 use Rattle.typelib.specs.Header.{typeCount}
-use Rattle.table_cursors.specs.declared.iterators.GuidCursor.{GuidCursor}
-use Rattle.table_cursors.specs.declared.iterators.ImportCursor.{ImportCursor}
-use Rattle.table_cursors.specs.declared.iterators.ImpFileCursor.{ImpFileCursor}
-use Rattle.table_cursors.specs.declared.iterators.NameCursor.{NameCursor}
 use Rattle.records.specs.declared.name.NameEntry.{NameEntry}
 use Rattle.table_cursors.specs.declared.iterators.TypeInfoCursor.{TypeInfoCursor}
 use Rattle.typelib.specs.TableLaws.{lent-fits, in-table}
 use Rattle.typelib.specs.Tables.{lent, inTable}
 use Rattle.typelib.specs.TypeInfos.{typeinfoOf}
-use Rattle.table_cursors.specs.Cursors.{guidStepFrom, guidStep, importStepFrom, importStep, impFileStepFrom, impFileStep}
-use Rattle.cursors.specs.Cursors.{ended, fixedAt}
-use Rattle.cursors.specs.CursorLaws.{fixed, fixed-out, lent-value, lent-bind, lent-refused, stays, yields}
-use Rattle.table_cursors.specs.Cursors.{impFileEntry, typeinfoStepFrom, typeinfoStep, entryText, nameEntryFrom, nameEntry, over, nameStepFrom, nameStep}
+use Rattle.cursors.specs.Cursors.{fixedAt}
+use Rattle.cursors.specs.Numbers.{ended, beside}
+use Rattle.cursors.specs.CursorLaws.{fixed, fixed-out, lent-value, lent-bind, lent-refused}
+use Rattle.table_cursors.specs.Cursors.{NamesAt, impFileEntry, typeinfoNextFrom, typeinfoNext, typeinfoStep, entryText, nameEntryFrom, nameEntry}
 
 -- ---- typeinfos
 
 module _ (s : List ℕ) (lib : TypeLib) (c : TypeInfoCursor) where
   pub typeinfos-long : limit < length s → ended 1 c ≡ typeinfoStep s lib c
-  unfolding typeinfoStep
+  unfolding typeinfoNext
   typeinfos-long h = rw (lt-ltb limit (length s) h)
 
   pub typeinfos-end : length s ≤ limit → typeCount lib ≤ c .index .0 → ended 9 c ≡ typeinfoStep s lib c
-  unfolding typeinfoStep
+  unfolding typeinfoNext
   typeinfos-end h k = rw (le-ltb limit (length s) h, le-leb (typeCount lib) (c .index .0) k)
 
-  pub typeinfos-next : (a : Answer Place) → length s ≤ limit → c .index .0 < typeCount lib → a ≡ typeinfoOf s lib (c .index .0) → typeinfoStepFrom c a ≡ typeinfoStep s lib c
-  unfolding typeinfoStep
-  typeinfos-next a h k e = rw (le-ltb limit (length s) h, lt-leb (typeCount lib) (c .index .0) k) (ap (typeinfoStepFrom c) e)
+  pub typeinfos-next : (a : Answer Place) → length s ≤ limit → c .index .0 < typeCount lib → a ≡ typeinfoOf s lib (c .index .0) → beside (λ d _. d) (c .index .0) (typeinfoNextFrom c a) ≡ typeinfoStep s lib c
+  unfolding typeinfoNext
+  typeinfos-next a h k e = rw (le-ltb limit (length s) h, lt-leb (typeCount lib) (c .index .0) k) (ap (λ (x : Answer Place). beside (λ d _. d) (c .index .0) (typeinfoNextFrom c x)) e)
 
 -- ---- import files
 
@@ -55,17 +51,23 @@ pub entry-none : (s : List ℕ) (pos end n : ℕ) → refused n ≡ lent s (fixe
 unfolding impFileEntry
 entry-none s pos end n e = lent-bind s (fixedAt s pos end 14) (λ _. fixedAt s pos end (impFileSize (le 2 s (pos + 12)))) n e
 
-bind-inside : (s : List ℕ) (pos end size : ℕ) (a p : Place) (first : Answer Place) → length s ≤ limit → value p ≡ bind first (λ _. fixedAt s pos end size) → pos + p .len ≤ length s
-bind-inside s pos end size a p (value x) h e =
-    let f = fixed s pos end size p (lent-fits s (fixedAt s pos end size) (value p) h e) in
-    omega arith
-bind-inside s pos end size a p (refused n) h e = let z : _≡_ {A = ℕ} 0 1 = cc in absurd (omega arith)
+-- an entry lies inside the bytes, and is longer than nothing
+pub record Entry (s : List ℕ) (pos : ℕ) (p : Place) : Type 0 where
+  pub few : length s ≤ limit
+  pub inside : pos + p .len ≤ length s
+  pub some : 0 < p .len
 
-pub entry-inside : (s : List ℕ) (pos end : ℕ) (p : Place) → value p ≡ lent s (impFileEntry s pos end) → pos + p .len ≤ length s
+bind-inside : (s : List ℕ) (pos end size : ℕ) (p : Place) (first : Answer Place) → length s ≤ limit → 0 < size → value p ≡ bind first (λ _. fixedAt s pos end size) → Entry s pos p
+bind-inside s pos end size p (value x) h k e =
+    let f = fixed s pos end size p (lent-fits s (fixedAt s pos end size) (value p) h e) in
+    record { few = h; inside = omega (arith, f .inside, f .whole); some = omega (arith, f .whole) }
+bind-inside s pos end size p (refused n) h k e = let z : _≡_ {A = ℕ} 0 1 = cc in absurd (omega arith)
+
+pub entry-inside : (s : List ℕ) (pos end : ℕ) (p : Place) → value p ≡ lent s (impFileEntry s pos end) → Entry s pos p
 unfolding impFileEntry
 entry-inside s pos end p e =
     let v = lent-value s p (impFileEntry s pos end) e in
-    bind-inside s pos end (impFileSize (le 2 s (pos + 12))) p p (fixedAt s pos end 14) (v .few) (v .is)
+    bind-inside s pos end (impFileSize (le 2 s (pos + 12))) p (fixedAt s pos end 14) (v .few) (omega arith) (v .is)
 
 -- ---- names
 
@@ -81,7 +83,7 @@ module _ (s : List ℕ) (pos end n : ℕ) where
   pub behind-refused : (m : ℕ) → refused m ≡ lent s (fixedAt s pos end (12 + n)) → refused m ≡ lent s (entryText s pos end n)
   behind-refused m e = lent-refused s (fixedAt s pos end (12 + n)) (map (λ (_ : Place). record { at = pos + 12; len = n })) m refl e
 
-module _ (s : List ℕ) (c : NameCursor) where
+module _ (s : List ℕ) (c : NamesAt) where
   pub name-before : c .pos < c .start → refused 9 ≡ nameEntry s c
   unfolding nameEntry
   name-before h = rw (lt-ltb (c .pos) (c .start) h)
@@ -141,7 +143,7 @@ module _ (s : List ℕ) (P : Place → Type 0) where
       (λ _ e. let z : _≡_ {A = ℕ} 0 1 = cc in absurd (omega arith))
   text-place (refused n) h p = λ e. let z : _≡_ {A = ℕ} 0 1 = cc in absurd (omega arith)
 
-  module _ (c : NameCursor) (e : NameEntry) where
+  module _ (c : NamesAt) (e : NameEntry) where
     abbrev text : Answer Place
     text = entryText s (c .pos) (c .end) (le 1 s (c .pos + 8))
 
@@ -166,28 +168,6 @@ module _ (s : List ℕ) (P : Place → Type 0) where
         (λ _ g. bind-place (λ q. holds q (v .few)) (fixedAt s (c .pos) (c .end) 12) g)
         (v .is)
 
-pub name-behind : (s : List ℕ) (c : NameCursor) (e : NameEntry) → value e ≡ lent s (nameEntry s c) → Behind s (c .pos) (c .end) (e .text)
+pub name-behind : (s : List ℕ) (c : NamesAt) (e : NameEntry) → value e ≡ lent s (nameEntry s c) → Behind s (c .pos) (c .end) (e .text)
 name-behind s c e =
     name-place s (Behind s (c .pos) (c .end)) c e (entry-text s (c .pos) (c .end) (le 1 s (c .pos + 8)))
-
--- ---- a cursor that has yielded nothing
-
-module _ (s : List ℕ) (n : ℕ) where
-  pub guid-again : (c d : GuidCursor) → ended n d ≡ guidStep s c → ended n d ≡ guidStep s d
-  guid-again c d e =
-      e ∙ ap (guidStep s) (sym (stays c (guidStepFrom c) (λ x m b. yields m b _ _) (λ m. refl) (lent s (fixedAt s (c .pos) (c .end) 24)) n d e))
-
-  pub import-again : (c d : ImportCursor) → ended n d ≡ importStep s c → ended n d ≡ importStep s d
-  import-again c d e =
-      e ∙ ap (importStep s) (sym (stays c (importStepFrom c) (λ x m b. yields m b _ _) (λ m. refl) (lent s (fixedAt s (c .pos) (c .end) 12)) n d e))
-
-  pub impFile-again : (c d : ImpFileCursor) → ended n d ≡ impFileStep s c → ended n d ≡ impFileStep s d
-  impFile-again c d e =
-      e ∙ ap (impFileStep s) (sym (stays c (impFileStepFrom c) (λ x m b. yields m b _ _) (λ m. refl) (lent s (impFileEntry s (c .pos) (c .end))) n d e))
-
-  name-stays : (c d : NameCursor) (a : Answer NameEntry) → over n d ≡ nameStepFrom c a → d ≡ c
-  name-stays c d (value x) e = let z : _≡_ {A = ℕ} 0 1 = cc in absurd (omega arith)
-  name-stays c d (refused m) e = cc
-
-  pub name-again : (c d : NameCursor) → over n d ≡ nameStep s c → over n d ≡ nameStep s d
-  name-again c d e = e ∙ ap (nameStep s) (sym (name-stays c d (lent s (nameEntry s c)) e))

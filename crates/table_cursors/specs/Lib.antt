@@ -3,5 +3,6 @@ pub mod Cursors
 pub mod CursorLaws
 pub mod Members
 pub mod MemberLaws
+pub mod NumberLaws
 pub mod TableEnds
 pub mod Told

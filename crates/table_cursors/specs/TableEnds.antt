@@ -16,14 +16,21 @@ use Rattle.records.specs.AnswerLaws.{bind-value}
 use Rattle.records.specs.Counted.{impFileSize, textOf}
 use Rattle.records.specs.Record.{limit}
 use Rattle.cursors.specs.Cursors.{fixedAt}
-use Rattle.cursors.specs.CursorLaws.{fixed, fixed-in, fixed-out, fixed-there}
+use Rattle.cursors.specs.CursorLaws.{fixed, fixed-in, fixed-out, fixed-there, lent-value}
+use Rattle.cursors.specs.Numbers.{Step}
+use Rattle.cursors.specs.NumberLaws.{After}
+use Rattle.cursors.specs.NumberLaws.After.{start, more, still}
 use Rattle.typelib.specs.declared.TypeLib.{TypeLib}
 use Rattle.typelib.specs.Names.{nameBytes, nameText}
 use Rattle.typelib.specs.References.{impFileAt}
-use Rattle.typelib.specs.Tables.{segmentOf, inTable, placeIn, tablePlace, tableOf}
+use Rattle.typelib.specs.Tables.{lent, segmentOf, inTable, placeIn, tablePlace, tableOf}
 use Rattle.typelib.specs.TableLaws.{lent-fits, table-is, place-out, place-there}
+use Rattle.table_cursors.specs.Cursors.{NamesAt, guidStep, guidsOf, importStep, importsOf, impFileEntry, impFileStep, impFilesOf, entryText, nameEntryFrom, nameEntry, nameStep, namesOf}
+use Rattle.table_cursors.specs.NumberLaws.{Along, guid-along, import-along, impFile-along, name-along}
+use Rattle.table_cursors.specs.declared.iterators.GuidCursor.{GuidCursor}
+use Rattle.table_cursors.specs.declared.iterators.ImportCursor.{ImportCursor}
+use Rattle.table_cursors.specs.declared.iterators.ImpFileCursor.{ImpFileCursor}
 use Rattle.table_cursors.specs.declared.iterators.NameCursor.{NameCursor}
-use Rattle.table_cursors.specs.Cursors.{impFileEntry, entryText, nameEntryFrom, nameEntry}
 
 -- ---- one record
 
@@ -56,8 +63,7 @@ cursor-place s table offset size small = by (inTable s table (offset + size)) re
 
 -- ---- a library's own cursors
 
--- A cursor at pos goes over segment k of the library: `guids`, `names`, `imports` and `imp_files` give it so, and a step leaves it so,
--- since it goes forward and keeps the end.
+-- A cursor at pos goes over segment k of the library: `guids`, `names`, `imports` and `imp_files` give it so, and steps leave it so.
 pub record Own (lib : TypeLib) (k pos end : ℕ) : Type 0 where
   pub behind : tableOf (segmentOf lib k) .at ≤ pos
   pub ends : end ≡ tableOf (segmentOf lib k) .at + tableOf (segmentOf lib k) .len
@@ -65,8 +71,34 @@ pub record Own (lib : TypeLib) (k pos end : ℕ) : Type 0 where
 pub own : (lib : TypeLib) (k : ℕ) → Own lib k (tableOf (segmentOf lib k) .at) (tableOf (segmentOf lib k) .at + tableOf (segmentOf lib k) .len)
 own lib k = record { behind = omega arith; ends = refl }
 
-pub own-on : (lib : TypeLib) (k pos end n : ℕ) → Own lib k pos end → Own lib k (pos + n) end
-own-on lib k pos end n o = record { behind = omega (arith, o .behind); ends = o .ends }
+-- A LIBRARY'S CURSOR STAYS IN ITS TABLE, whatever bytes it is stepped over
+module _ {S R C : Type 0} {pos end : C → ℕ} {step : S → C → Step R C} (goes : Along pos end step) (lib : TypeLib) (k : ℕ) where
+  pub own-after : {c d : C} {j : ℕ} → Own lib k (pos c) (end c) → After step c j d → Own lib k (pos d) (end d)
+  own-after o start = o
+  own-after o (more s a e) =
+      let i = own-after o a in
+      record { behind = omega (arith, i .behind, goes .forward .ahead e); ends = goes .ends e ∙ i .ends }
+  own-after o (still s a e) =
+      let i = own-after o a in
+      record { behind = omega (arith, i .behind, goes .forward .keeps e); ends = goes .kept e ∙ i .ends }
+
+begins : {C : Type 0} (s : List ℕ) (lib : TypeLib) (k : ℕ) (pos end : C → ℕ) {b c : C} → Own lib k (pos b) (end b) → value c ≡ lent s (value b) → Own lib k (pos c) (end c)
+begins s lib k pos end {b} {c} o e =
+    let q : c ≡ b = let w = lent-value s c (value b) e .is in cc in
+    rw q o
+
+module _ (s : List ℕ) (lib : TypeLib) {j : ℕ} where
+  pub guids-own : {c d : GuidCursor} → value c ≡ guidsOf s lib → After guidStep c j d → Own lib 5 (d .pos) (d .end)
+  guids-own e = own-after guid-along lib 5 (begins s lib 5 (λ (c : GuidCursor). c .pos) (λ (c : GuidCursor). c .end) (own lib 5) e)
+
+  pub imports-own : {c d : ImportCursor} → value c ≡ importsOf s lib → After importStep c j d → Own lib 1 (d .pos) (d .end)
+  imports-own e = own-after import-along lib 1 (begins s lib 1 (λ (c : ImportCursor). c .pos) (λ (c : ImportCursor). c .end) (own lib 1) e)
+
+  pub impFiles-own : {c d : ImpFileCursor} → value c ≡ impFilesOf s lib → After impFileStep c j d → Own lib 2 (d .pos) (d .end)
+  impFiles-own e = own-after impFile-along lib 2 (begins s lib 2 (λ (c : ImpFileCursor). c .pos) (λ (c : ImpFileCursor). c .end) (own lib 2) e)
+
+  pub names-own : {c d : NameCursor} → value c ≡ namesOf s lib → After nameStep c j d → Own lib 7 (d .pos) (d .end)
+  names-own e = own-after name-along lib 7 (begins s lib 7 (λ (c : NameCursor). c .pos) (λ (c : NameCursor). c .end) (own lib 7) e)
 
 module _ (s : List ℕ) (lib : TypeLib) (k pos end : ℕ) (few : length s ≤ limit) (o : Own lib k pos end) where
   abbrev offset : ℕ
@@ -111,7 +143,7 @@ map-same : (f g : Place → Place) (a : Answer Place) → ((p : Place) → value
 map-same f g (value p) h = ap value (h p refl)
 map-same f g (refused n) h = refl
 
-module _ (s : List ℕ) (lib : TypeLib) (c : NameCursor) (few : length s ≤ limit) (o : Own lib 7 (c .pos) (c .end)) where
+module _ (s : List ℕ) (lib : TypeLib) (c : NamesAt) (few : length s ≤ limit) (o : Own lib 7 (c .pos) (c .end)) where
   abbrev at-offset : ℕ
   at-offset = c .pos - tableOf (segmentOf lib 7) .at
 

@@ -1,4 +1,5 @@
 -- What each answer of a cursor tells: its value, or the number of the refusal (document 01). A record is its place.
+use Rattle.records.specs.declared.answer.Place.{Place}
 use Rattle.records.specs.Answer.{Answer, value, refused}
 use Rattle.table_cursors.specs.declared.iterators.GuidCursor.{GuidCursor}
 use Rattle.table_cursors.specs.declared.iterators.GuidsAnswer.{GuidsAnswer}
@@ -28,39 +29,38 @@ use Rattle.table_cursors.specs.declared.iterators.NameStep.{NameStep}
 use Rattle.table_cursors.specs.declared.iterators.NameStep.the-variants as nameStep
 use Rattle.table_cursors.specs.declared.iterators.NameEntryAnswer.{NameEntryAnswer}
 use Rattle.table_cursors.specs.declared.iterators.NameEntryAnswer.the-variants as nameEntry
-use Rattle.cursors.specs.Cursors.{Step, yielded, ended}
-use Rattle.table_cursors.specs.Cursors.{NameYield, entry, over}
+use Rattle.cursors.specs.Numbers.{Step, yielded, ended}
 
 abbrev pub toldGuids : GuidsAnswer → Answer GuidCursor
 toldGuids (guids.Value c) = value c
 toldGuids (guids.Refused n) = refused n
 
-abbrev pub toldGuidStep : GuidStep → Step GuidCursor
-toldGuidStep (guidStep.Record r c) = yielded (record { at = r .at; len = r .len }) c
+abbrev pub toldGuidStep : GuidStep → Step Place GuidCursor
+toldGuidStep (guidStep.Record r number c) = yielded (record { at = r .at; len = r .len }) number c
 toldGuidStep (guidStep.Refused n c) = ended n c
 
 abbrev pub toldImports : ImportsAnswer → Answer ImportCursor
 toldImports (imports.Value c) = value c
 toldImports (imports.Refused n) = refused n
 
-abbrev pub toldImportStep : ImportStep → Step ImportCursor
-toldImportStep (importStep.Record r c) = yielded (record { at = r .at; len = r .len }) c
+abbrev pub toldImportStep : ImportStep → Step Place ImportCursor
+toldImportStep (importStep.Record r number c) = yielded (record { at = r .at; len = r .len }) number c
 toldImportStep (importStep.Refused n c) = ended n c
 
 abbrev pub toldImpFiles : ImpFilesAnswer → Answer ImpFileCursor
 toldImpFiles (impFiles.Value c) = value c
 toldImpFiles (impFiles.Refused n) = refused n
 
-abbrev pub toldImpFileStep : ImpFileStep → Step ImpFileCursor
-toldImpFileStep (impFileStep.Record r c) = yielded (record { at = r .at; len = r .len }) c
+abbrev pub toldImpFileStep : ImpFileStep → Step Place ImpFileCursor
+toldImpFileStep (impFileStep.Record r number c) = yielded (record { at = r .at; len = r .len }) number c
 toldImpFileStep (impFileStep.Refused n c) = ended n c
 
 abbrev pub toldTypeInfos : TypeInfosAnswer → Answer TypeInfoCursor
 toldTypeInfos (typeinfos.Value c) = value c
 toldTypeInfos (typeinfos.Refused n) = refused n
 
-abbrev pub toldTypeInfoStep : TypeInfoStep → Step TypeInfoCursor
-toldTypeInfoStep (typeinfoStep.Record r c) = yielded (record { at = r .at; len = r .len }) c
+abbrev pub toldTypeInfoStep : TypeInfoStep → Step Place TypeInfoCursor
+toldTypeInfoStep (typeinfoStep.Record r number c) = yielded (record { at = r .at; len = r .len }) number c
 toldTypeInfoStep (typeinfoStep.Refused n c) = ended n c
 
 abbrev pub toldNameEntry : NameEntryAnswer → Answer NameEntry
@@ -71,6 +71,6 @@ abbrev pub toldNames : NamesAnswer → Answer NameCursor
 toldNames (names.Value c) = value c
 toldNames (names.Refused n) = refused n
 
-abbrev pub toldNameStep : NameStep → NameYield
-toldNameStep (nameStep.Record e c) = entry e c
-toldNameStep (nameStep.Refused n c) = over n c
+abbrev pub toldNameStep : NameStep → Step NameEntry NameCursor
+toldNameStep (nameStep.Record e number c) = yielded e number c
+toldNameStep (nameStep.Refused n c) = ended n c

@@ -1,7 +1,8 @@
 // Cursors over the tables of a library: iterators.rs of the source.
 //
 // A cursor goes in by value and comes back. One step replies as one `next` of the source, kept to its table as document 02 says: the
-// record and the next cursor, or a refusal and the same cursor. 9 is the end; the typeinfo cursor also goes on after a refusal 6, 7 or 8.
+// record, its number from 0 and the next cursor, or a refusal and the same cursor. 9 is the end; the typeinfo cursor also goes on after a
+// refusal 6, 7 or 8, and its number is its index.
 use cursors::iterators;
 use records::answer;
 use records::answer::Place;
@@ -21,7 +22,7 @@ ghost use mathlib.Core.Path.{_≡_};
 ghost use Prim.Native.Nat.{_+_, _-_, _≤_, _<_};
 ghost use lib.ListN.{length};
 ghost use Rattle.records.specs.Told.{toldPlace};
-ghost use Rattle.table_cursors.specs.Cursors.{guidStep, importStep, impFileEntry, impFileStep, guidsOf, importsOf, impFilesOf, typeinfosOf, typeinfoStep, entryText, nameEntryFrom, nameEntry, nameStep, namesIn, namesOf};
+ghost use Rattle.table_cursors.specs.Cursors.{guidStep, importStep, impFileEntry, impFileStep, guidsOf, importsOf, impFilesOf, typeinfosOf, typeinfoStep, entryText, overNames, nameEntryFrom, nameEntry, nameStep, namesIn, namesOf};
 ghost use Rattle.typelib.specs.Header.{library, typeCount};
 ghost use Rattle.typelib.specs.Tables.{lent};
 ghost use Rattle.table_cursors.specs.Told.{toldGuids, toldGuidStep, toldImports, toldImportStep, toldImpFiles, toldImpFileStep, toldTypeInfos, toldTypeInfoStep, toldNames, toldNameStep, toldNameEntry};
@@ -29,6 +30,7 @@ ghost use Rattle.table_cursors.specs.Told.{toldGuids, toldGuidStep, told
 pub struct GuidCursor {
     pub pos: usize,
     pub end: usize,
+    pub yielded: u64,
 }
 
 pub enum GuidsAnswer {
@@ -37,13 +39,14 @@ pub enum GuidsAnswer {
 }
 
 pub enum GuidStep {
-    Record(GuidEntry, GuidCursor),
+    Record(GuidEntry, u64, GuidCursor),
     Refused(u8, GuidCursor),
 }
 
 pub struct ImportCursor {
     pub pos: usize,
     pub end: usize,
+    pub yielded: u64,
 }
 
 pub enum ImportsAnswer {
@@ -52,13 +55,14 @@ pub enum ImportsAnswer {
 }
 
 pub enum ImportStep {
-    Record(ImpInfo, ImportCursor),
+    Record(ImpInfo, u64, ImportCursor),
     Refused(u8, ImportCursor),
 }
 
 pub struct ImpFileCursor {
     pub pos: usize,
     pub end: usize,
+    pub yielded: u64,
 }
 
 pub enum ImpFilesAnswer {
@@ -67,7 +71,7 @@ pub enum ImpFilesAnswer {
 }
 
 pub enum ImpFileStep {
-    Record(ImpFile, ImpFileCursor),
+    Record(ImpFile, u64, ImpFileCursor),
     Refused(u8, ImpFileCursor),
 }
 
@@ -76,6 +80,7 @@ pub struct NameCursor {
     pub pos: usize,
     pub end: usize,
     pub start: usize,
+    pub yielded: u64,
 }
 
 pub enum NamesAnswer {
@@ -84,7 +89,7 @@ pub enum NamesAnswer {
 }
 
 pub enum NameStep {
-    Record(NameEntry, NameCursor),
+    Record(NameEntry, u64, NameCursor),
     Refused(u8, NameCursor),
 }
 
@@ -103,7 +108,7 @@ pub enum TypeInfosAnswer {
 }
 
 pub enum TypeInfoStep {
-    Record(TypeInfoEntry, TypeInfoCursor),
+    Record(TypeInfoEntry, u64, TypeInfoCursor),
     Refused(u8, TypeInfoCursor),
 }
 
@@ -129,6 +134,7 @@ pub fn guids(lib: TypeLib, s: &[u8]) -> GuidsAnswer
     GuidsAnswer::Value(GuidCursor {
         pos: table.at,
         end: table.at + table.len,
+        yielded: 0,
     })
 }
 
@@ -143,6 +149,7 @@ pub fn imports(lib: TypeLib, s: &[u8]) -> ImportsAnswer
     ImportsAnswer::Value(ImportCursor {
         pos: table.at,
         end: table.at + table.len,
+        yielded: 0,
     })
 }
 
@@ -157,6 +164,7 @@ pub fn imp_files(lib: TypeLib, s: &[u8]) -> ImpFilesAnswer
     ImpFilesAnswer::Value(ImpFileCursor {
         pos: table.at,
         end: table.at + table.len,
+        yielded: 0,
     })
 }
 
@@ -179,6 +187,7 @@ pub(crate) fn names_in(lib: &Numbers) -> NameCursor
         pos: table.at,
         end: table.at + table.len,
         start: table.at,
+        yielded: 0,
     }
 }
 
@@ -193,9 +202,11 @@ impl GuidCursor {
                     at: place.at,
                     len: place.len,
                 },
+                self.yielded,
                 GuidCursor {
                     pos: pos + GuidEntry::SIZE,
                     end: self.end,
+                    yielded: iterators::number_behind(self.yielded),
                 },
             ),
             PlaceAnswer::Refused(n) => GuidStep::Refused(n, self),
@@ -214,9 +225,11 @@ impl ImportCursor {
                     at: place.at,
                     len: place.len,
                 },
+                self.yielded,
                 ImportCursor {
                     pos: pos + ImpInfo::SIZE,
                     end: self.end,
+                    yielded: iterators::number_behind(self.yielded),
                 },
             ),
             PlaceAnswer::Refused(n) => ImportStep::Refused(n, self),
@@ -235,9 +248,11 @@ impl ImpFileCursor {
                     at: place.at,
                     len: place.len,
                 },
+                self.yielded,
                 ImpFileCursor {
                     pos: pos + place.len,
                     end: self.end,
+                    yielded: iterators::number_behind(self.yielded),
                 },
             ),
             PlaceAnswer::Refused(n) => ImpFileStep::Refused(n, self),
@@ -254,10 +269,12 @@ impl NameCursor {
                 let text = entry.text;
                 NameStep::Record(
                     entry,
+                    self.yielded,
                     NameCursor {
                         pos: text.at + (text.len + 3) / 4 * 4,
                         end: self.end,
                         start: self.start,
+                        yielded: iterators::number_behind(self.yielded),
                     },
                 )
             }
@@ -280,7 +297,7 @@ impl TypeInfoCursor {
         let behind = TypeInfoIndex(index.0 + 1);
         let next = TypeInfoCursor { index: behind };
         match lib.typeinfo(s, index) {
-            TypeInfoAnswer::Value(ti) => TypeInfoStep::Record(ti, next),
+            TypeInfoAnswer::Value(ti) => TypeInfoStep::Record(ti, index.0 as u64, next),
             TypeInfoAnswer::Refused(n) => TypeInfoStep::Refused(n, next),
         }
     }
@@ -309,7 +326,7 @@ fn imp_file_entry(s: &[u8], pos: usize, end: usize) -> PlaceAnswer
 
 // The entry of the name table at the cursor.
 fn name_entry(s: &[u8], c: NameCursor) -> NameEntryAnswer
-    ensures { λ r. ⌜ toldNameEntry r ≡ lent (now (s .entry)) (nameEntry (now (s .entry)) c) ⌝ }
+    ensures { λ r. ⌜ toldNameEntry r ≡ lent (now (s .entry)) (nameEntry (now (s .entry)) (overNames .stands c)) ⌝ }
 {
     let pos = c.pos;
     if LIMIT < s.len() {
@@ -343,7 +360,7 @@ fn entry_text(s: &[u8], pos: usize, end: usize, len: usize) -> PlaceAnswer
 
 fn name_entry_from(s: &[u8], c: NameCursor, text: Place) -> NameEntry
     requires { ⌜ (c .pos + 12 ≤ length (now s)) × (c .start ≤ c .pos) ⌝ }
-    ensures { λ r. ⌜ r ≡ nameEntryFrom (now (s .entry)) c text ⌝ }
+    ensures { λ r. ⌜ r ≡ nameEntryFrom (now (s .entry)) (overNames .stands c) text ⌝ }
 {
     let pos = c.pos;
     NameEntry {

@@ -25,7 +25,7 @@ pub fn member_name(lib: TypeLib, s: &[u8], index: TypeInfoIndex, k: usize) -> Pl
     }
     match tables::offset_word(&lib.numbers, s, index) {
         OffsetAnswer::Value(own) => match next_match(s, own, iterators::names_in(&lib.numbers)) {
-            NameStep::Record(_, c) => match_behind(s, own, k, next_match(s, own, c)),
+            NameStep::Record(_, _, c) => match_behind(s, own, k, next_match(s, own, c)),
             NameStep::Refused(n, _) => PlaceAnswer::Refused(n),
         },
         OffsetAnswer::Refused(n) => PlaceAnswer::Refused(n),
@@ -40,9 +40,9 @@ fn next_match(s: &[u8], own: TypeInfoOffset, from: NameCursor) -> NameStep
     let mut left = s.len();
     while 0 < left {
         match c.step(s) {
-            NameStep::Record(entry, next) => {
+            NameStep::Record(entry, number, next) => {
                 if util::unsigned32(entry.hreftype) == own.0 {
-                    return NameStep::Record(entry, next);
+                    return NameStep::Record(entry, number, next);
                 }
                 c = next;
             }
@@ -63,7 +63,7 @@ fn match_behind(s: &[u8], own: TypeInfoOffset, k: usize, first: NameStep) -> Pla
     let mut left = k;
     loop {
         match found {
-            NameStep::Record(entry, c) => {
+            NameStep::Record(entry, _, c) => {
                 if left == 0 {
                     let text = entry.text;
                     return PlaceAnswer::Value(text);

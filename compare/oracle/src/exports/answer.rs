@@ -9,7 +9,8 @@ use crate::{Guid, SafeArrayBound, TypeKind, VarRecord};
 pub enum Answer {
     Number(u32),
     Row(Vec<u8>),
-    /// A cursor that has nothing left, whose other numbers, before the last, are left to the program.
+    /// A cursor that has nothing left and has yielded nothing, whose numbers before these two are left to the
+    /// program.
     Ended(Vec<u8>),
     Refused(u8),
 }
@@ -131,5 +132,9 @@ impl Row {
 
     pub fn answer(self) -> Answer {
         Answer::Row(self.0)
+    }
+
+    pub fn bytes(self) -> Vec<u8> {
+        self.0
     }
 }

@@ -2,7 +2,8 @@
 
 use super::numbers::Numbers;
 
-/// An export by the numbers that it takes beside the library, and whether it has an output.
+/// An export by the numbers that it takes beside the library, and whether it has an output. One that takes a
+/// cursor over a table, over a block of records or along a chain has its count last.
 #[derive(Clone, Copy)]
 pub enum Call {
     Lib(unsafe extern "C" fn(*const u8, usize) -> i64),
@@ -14,7 +15,11 @@ pub enum Call {
     TwoOut(unsafe extern "C" fn(*const u8, usize, usize, usize, *mut u8, usize) -> i64),
     Three(unsafe extern "C" fn(*const u8, usize, usize, usize, usize) -> i64),
     ThreeOut(unsafe extern "C" fn(*const u8, usize, usize, usize, usize, *mut u8, usize) -> i64),
-    ChainOut(unsafe extern "C" fn(*const u8, usize, usize, usize, u32, *mut u8, usize) -> i64),
+    TableOut(unsafe extern "C" fn(*const u8, usize, usize, usize, u64, *mut u8, usize) -> i64),
+    BlockOut(
+        unsafe extern "C" fn(*const u8, usize, usize, usize, usize, u64, *mut u8, usize) -> i64,
+    ),
+    ChainOut(unsafe extern "C" fn(*const u8, usize, usize, usize, u32, u64, *mut u8, usize) -> i64),
     Kind(unsafe extern "C" fn(u8) -> i64),
     KindOut(unsafe extern "C" fn(u8, *mut u8, usize) -> i64),
     CodeOut(unsafe extern "C" fn(u16, *mut u8, usize) -> i64),
@@ -35,8 +40,14 @@ macro_rules! linked {
     (ThreeOut $name:ident) => {
         linked!(@ ThreeOut $name; *const u8, usize, usize, usize, usize, *mut u8, usize)
     };
+    (TableOut $name:ident) => {
+        linked!(@ TableOut $name; *const u8, usize, usize, usize, u64, *mut u8, usize)
+    };
+    (BlockOut $name:ident) => {
+        linked!(@ BlockOut $name; *const u8, usize, usize, usize, usize, u64, *mut u8, usize)
+    };
     (ChainOut $name:ident) => {
-        linked!(@ ChainOut $name; *const u8, usize, usize, usize, u32, *mut u8, usize)
+        linked!(@ ChainOut $name; *const u8, usize, usize, usize, u32, u64, *mut u8, usize)
     };
     (Kind $name:ident) => { linked!(@ Kind $name; u8) };
     (KindOut $name:ident) => { linked!(@ KindOut $name; u8, *mut u8, usize) };
@@ -57,6 +68,7 @@ impl Call {
         const LIB: &str = "const uint8_t *";
         const OUT: &str = "uint8_t *";
         const SIZE: &str = "size_t";
+        const COUNT: &str = "uint64_t";
         match self {
             Call::Lib(_) => &[LIB, SIZE],
             Call::LibOut(_) => &[LIB, SIZE, OUT, SIZE],
@@ -67,7 +79,9 @@ impl Call {
             Call::TwoOut(_) => &[LIB, SIZE, SIZE, SIZE, OUT, SIZE],
             Call::Three(_) => &[LIB, SIZE, SIZE, SIZE, SIZE],
             Call::ThreeOut(_) => &[LIB, SIZE, SIZE, SIZE, SIZE, OUT, SIZE],
-            Call::ChainOut(_) => &[LIB, SIZE, SIZE, SIZE, "uint32_t", OUT, SIZE],
+            Call::TableOut(_) => &[LIB, SIZE, SIZE, SIZE, COUNT, OUT, SIZE],
+            Call::BlockOut(_) => &[LIB, SIZE, SIZE, SIZE, SIZE, COUNT, OUT, SIZE],
+            Call::ChainOut(_) => &[LIB, SIZE, SIZE, SIZE, "uint32_t", COUNT, OUT, SIZE],
             Call::Kind(_) => &["uint8_t"],
             Call::KindOut(_) => &["uint8_t", OUT, SIZE],
             Call::CodeOut(_) => &["uint16_t", OUT, SIZE],
@@ -88,7 +102,7 @@ impl Call {
 
     /// The product's reply. Numbers that the form does not take are left out, and those of a
     /// narrower type are given by their low bits.
-    pub fn reply(&self, lib: &[u8], [a, b, c]: Numbers, out: &mut [u8]) -> i64 {
+    pub fn reply(&self, lib: &[u8], [a, b, c, d]: Numbers, out: &mut [u8]) -> i64 {
         let (at, n) = (lib.as_ptr(), lib.len());
         let (to, room) = (out.as_mut_ptr(), out.len());
         // The calls read the library's bytes and write the output's alone; that they do no more is
@@ -104,7 +118,9 @@ impl Call {
                 Call::TwoOut(call) => call(at, n, a, b, to, room),
                 Call::Three(call) => call(at, n, a, b, c),
                 Call::ThreeOut(call) => call(at, n, a, b, c, to, room),
-                Call::ChainOut(call) => call(at, n, a, b, c as u32, to, room),
+                Call::TableOut(call) => call(at, n, a, b, c as u64, to, room),
+                Call::BlockOut(call) => call(at, n, a, b, c, d as u64, to, room),
+                Call::ChainOut(call) => call(at, n, a, b, c as u32, d as u64, to, room),
                 Call::Kind(call) => call(a as u8),
                 Call::KindOut(call) => call(a as u8, to, room),
                 Call::CodeOut(call) => call(a as u16, to, room),

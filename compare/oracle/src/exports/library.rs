@@ -44,7 +44,7 @@ fn indexed() -> Vec<Export> {
             lib.typeinfo(index).tell(lib.data())
         }),
         // The reference makes the list of the names.
-        export!(TwoOut msft_member_name, Asks::Member, Library, |lib, [index, k, _]| {
+        export!(TwoOut msft_member_name, Asks::Member, Library, |lib, [index, k, ..]| {
             lib.member_names(index).get(k).copied().tell(lib.data())
         }),
     ]

@@ -6,8 +6,9 @@ use crate::library::{
 };
 use crate::readings::Kind;
 
-/// The numbers of a call beside the library and the output, in the header's order; the rest is 0.
-pub type Numbers = [usize; 3];
+/// The numbers of a call beside the library and the output, in the header's order; the rest is 0. A size has
+/// 64 bits here, as a cursor's count has.
+pub type Numbers = [usize; 4];
 
 /// What an export's numbers mean.
 #[derive(Clone, Copy, Debug, PartialEq, Eq, Hash)]
@@ -65,4 +66,14 @@ pub enum Cursor {
     ImportFiles,
     Names,
     Chain,
+}
+
+impl Cursor {
+    /// Which of its numbers is the count of the records that it has yielded: its last.
+    pub fn count_at(self) -> usize {
+        match self {
+            Cursor::Guids | Cursor::Imports | Cursor::ImportFiles => 2,
+            _ => 3,
+        }
+    }
 }

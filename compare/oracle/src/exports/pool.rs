@@ -1,6 +1,6 @@
 //! The numbers that exports are asked with: real ones, which a library itself names, and hostile ones.
 
-mod found;
+pub(super) mod found;
 
 use std::collections::HashMap;
 
@@ -20,6 +20,9 @@ pub struct Pool {
     segments: [(usize, usize); SEGMENTS],
     real: HashMap<Asks, Vec<Numbers>>,
 }
+
+/// The counts that a cursor must have had: none, and the two largest.
+pub const EDGE_COUNTS: [usize; 3] = [0, usize::MAX - 1, usize::MAX];
 
 /// How far beside a real number one is that is near it.
 const NEAR: usize = 20;
@@ -80,19 +83,22 @@ impl Pool {
 
     fn hostile(&self, asks: Asks, random: &mut Random) -> Numbers {
         match asks {
-            Asks::Nothing => [0; 3],
+            Asks::Nothing => [0; 4],
             Asks::Record(kind) => self.place(kind, random),
-            Asks::Segment => [self.index(random), 0, 0],
-            Asks::Type | Asks::Member => [self.index(random), self.index(random), 0],
-            Asks::Word(words) => [self.word(words, random) as u32 as usize, 0, 0],
-            Asks::Cursor(Cursor::Chain) => {
-                let next = self.word(Words::Reference, random) as u32 as usize;
-                [self.size(random), self.size(random), next]
+            Asks::Segment => [self.index(random), 0, 0, 0],
+            Asks::Type | Asks::Member => [self.index(random), self.index(random), 0, 0],
+            Asks::Word(words) => [self.word(words, random) as u32 as usize, 0, 0, 0],
+            Asks::Cursor(cursor) => {
+                let mut numbers = [self.size(random), self.size(random), self.size(random), 0];
+                if cursor == Cursor::Chain {
+                    numbers[2] = self.word(Words::Reference, random) as u32 as usize;
+                }
+                numbers[cursor.count_at()] = count(random);
+                numbers
             }
-            Asks::Cursor(_) => [self.size(random), self.size(random), self.size(random)],
-            Asks::RawKind => [random.below(1 << 8), 0, 0],
-            Asks::Code if random.percent(50) => [random.below(1 << 6), 0, 0],
-            Asks::Code => [random.below(1 << 16), 0, 0],
+            Asks::RawKind => [random.below(1 << 8), 0, 0, 0],
+            Asks::Code if random.percent(50) => [random.below(1 << 6), 0, 0, 0],
+            Asks::Code => [random.below(1 << 16), 0, 0, 0],
         }
     }
 
@@ -116,7 +122,7 @@ impl Pool {
             true => (self.length + random.below(3)).wrapping_sub(len.wrapping_add(1)),
             false => self.size(random),
         };
-        [at, len, self.index(random)]
+        [at, len, self.index(random), 0]
     }
 
     /// A small number, or any size.
@@ -171,6 +177,15 @@ impl Pool {
             _ => return random.number() as i32,
         };
         edge.wrapping_add(beside)
+    }
+}
+
+/// The count of a cursor: none, one of the two largest, a small one, or any.
+fn count(random: &mut Random) -> usize {
+    match random.below(5) {
+        edge @ 0..3 => EDGE_COUNTS[edge],
+        3 => random.below(100),
+        _ => random.number() as usize,
     }
 }
 

@@ -21,7 +21,7 @@ pub(super) fn exports() -> Vec<Export> {
 }
 
 /// The lent bytes at a place, if they lie there.
-pub(super) fn lent_at<'a>(lib: &TypeLib<'a>, [at, len, _]: Numbers) -> Option<&'a [u8]> {
+pub(super) fn lent_at<'a>(lib: &TypeLib<'a>, [at, len, ..]: Numbers) -> Option<&'a [u8]> {
     lib.data().get(at..at.checked_add(len)?)
 }
 

@@ -307,8 +307,8 @@ pub struct Ended {
     pub outcome: Outcome,
 }
 
-/// The answers for each entry that a cursor over names yields.
-const ANSWERS_OF_ENTRY: usize = 6;
+/// The answers for each entry that a cursor over names yields: its six values, and its number.
+const ANSWERS_OF_ENTRY: usize = 7;
 
 impl Ended {
     fn new(record: Record, end: End) -> Self {

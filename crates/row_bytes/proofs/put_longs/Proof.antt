@@ -1,5 +1,5 @@
-use Rattle.rows.specs.ValueLaws.{shown, longBytes, one, four, five}
 use Rattle.emit.specs.Laws.{known, join}
+use Rattle.rows.specs.ValueLaws.{shown, longBytes, one, four, five, six, seven}
 use borrow.Author.Needs.{needs}
 use Rattle.row_bytes.proofs.put_longs.Statement.{statement}
 use Rattle.row_bytes.proofs.put_longs.Tie as tie
@@ -46,6 +46,33 @@ put-two-requires-5 c κs = search needs
 put-two-requires-6 : tie.Need-put-two-requires-6
 put-two-requires-6 c κs = search needs
 
+enum-known-l-6 : tie.Need-enum-known-l-6
+enum-known-l-6 c = search needs
+
+put-two-requires-7 : tie.Need-put-two-requires-7
+put-two-requires-7 c κs = search needs
+
+put-two-requires-8 : tie.Need-put-two-requires-8
+put-two-requires-8 c κs = search needs
+
+put-two-requires-9 : tie.Need-put-two-requires-9
+put-two-requires-9 c κs = search needs
+
+enum-known-l-7 : tie.Need-enum-known-l-7
+enum-known-l-7 c = search needs
+
+put-le-requires-4 : tie.Need-put-le-requires-4
+put-le-requires-4 c κs = search needs
+
+put-two-requires-10 : tie.Need-put-two-requires-10
+put-two-requires-10 c κs = search needs
+
+put-two-requires-11 : tie.Need-put-two-requires-11
+put-two-requires-11 c κs = search needs
+
+put-two-requires-12 : tie.Need-put-two-requires-12
+put-two-requires-12 c κs = search needs
+
 same-length : tie.Need-same-length
 same-length c = search needs
 
@@ -76,6 +103,18 @@ same-length-5 c = search needs
 returns-5 : tie.Need-returns-5
 returns-5 c = known (five (c .before .before .before .before .before .before .before .before .before .before .before .before .before .l5 .given .1)) (join (c .before .before .before .before .before .before .before .before .before .before .put-le3 .ensures) (join (c .before .before .before .before .before .before .put-two5 .ensures) (c .before .before .put-two6 .ensures)))
 
+same-length-6 : tie.Need-same-length-6
+same-length-6 c = search needs
+
+returns-6 : tie.Need-returns-6
+returns-6 c = known (six (c .before .before .before .before .before .before .before .before .before .before .before .before .before .l6 .given .1)) (join (c .before .before .before .before .before .before .before .before .before .before .put-two7 .ensures) (join (c .before .before .before .before .before .before .put-two8 .ensures) (c .before .before .put-two9 .ensures)))
+
+same-length-7 : tie.Need-same-length-7
+same-length-7 c = search needs
+
+returns-7 : tie.Need-returns-7
+returns-7 c = known (seven (c .before .before .before .before .before .before .before .before .before .before .before .before .before .before .before .before .before .l7 .given .1)) (join (c .before .before .before .before .before .before .before .before .before .before .before .before .before .before .put-le4 .ensures) (join (c .before .before .before .before .before .before .before .before .before .before .put-two10 .ensures) (join (c .before .before .before .before .before .before .put-two11 .ensures) (c .before .before .put-two12 .ensures))))
+
 pub put-longs-spec : {M : Type 1} → statement M
 put-longs-spec =
     tie.close
@@ -94,6 +133,15 @@ put-longs-spec =
     put-le-requires-3
     put-two-requires-5
     put-two-requires-6
+    enum-known-l-6
+    put-two-requires-7
+    put-two-requires-8
+    put-two-requires-9
+    enum-known-l-7
+    put-le-requires-4
+    put-two-requires-10
+    put-two-requires-11
+    put-two-requires-12
     same-length
     returns
     same-length-2
@@ -103,4 +151,8 @@ put-longs-spec =
     same-length-4
     returns-4
     same-length-5
-    returns-5)
+    returns-5
+    same-length-6
+    returns-6
+    same-length-7
+    returns-7)

@@ -1,6 +1,6 @@
-use Rattle.rows.specs.Told.{toldRow}
-use Rattle.rows.specs.ValueLaws.{shown}
 use Rattle.emit.specs.Laws.{known, join}
+use Rattle.rows.specs.ValueLaws.{shown}
+use Rattle.rows.specs.Told.{toldRow}
 use borrow.Author.Needs.{needs}
 use Rattle.row_bytes.proofs.put_row.Statement.{statement}
 use Rattle.row_bytes.proofs.put_row.Tie as tie
@@ -28,6 +28,9 @@ put-longs-requires-2 c κs = search needs
 
 put-u32-requires-3 : tie.Need-put-u32-requires-3
 put-u32-requires-3 c κs = search needs
+
+put-le-requires : tie.Need-put-le-requires
+put-le-requires c κs = search needs
 
 enum-known-row-4 : tie.Need-enum-known-row-4
 enum-known-row-4 c = search needs
@@ -96,7 +99,7 @@ same-length-3 : tie.Need-same-length-3
 same-length-3 c = search needs
 
 returns-3 : tie.Need-returns-3
-returns-3 c = known (shown toldRow (c .before .before .before .before .before .before .before .before .before .row3 .given .1)) (join (c .before .before .before .before .before .before .put-longs2 .ensures) (c .before .before .put-u323 .ensures))
+returns-3 c = known (shown toldRow (c .before .before .before .before .before .before .before .before .before .before .before .before .before .row3 .given .1)) (join (c .before .before .before .before .before .before .before .before .before .before .put-longs2 .ensures) (join (c .before .before .before .before .before .before .put-u323 .ensures) (c .before .before .put-le .ensures)))
 
 same-length-4 : tie.Need-same-length-4
 same-length-4 c = search needs
@@ -149,6 +152,7 @@ put-row-spec =
     enum-known-row-3
     put-longs-requires-2
     put-u32-requires-3
+    put-le-requires
     enum-known-row-4
     put-u8-requires
     put-longs-requires-3

@@ -4,6 +4,7 @@ use std::process::ExitCode;
 
 use bounded::exports::numbers::{Asks, Words};
 use bounded::exports::pool::Pool;
+use bounded::exports::stepped::MOST_LINKS;
 use bounded::inputs::layout::{self, Layout};
 use bounded::inputs::{Input, Inputs, constants, edges, large, records, table_ends, texts};
 use bounded::random::Random;
@@ -18,6 +19,9 @@ use crate::run::Run;
 const ABOUT_REAL: usize = 100;
 const ABOUT_NUMBERED: usize = 4;
 const ABOUT_OTHER: usize = 1;
+
+/// How often a chain that comes round is stepped.
+const STEPS_ROUND: usize = 100_000;
 
 /// How many places around a made-up record are asked for.
 const AROUND_RECORD: usize = 3;
@@ -62,6 +66,7 @@ pub fn compare(options: &Options) -> ExitCode {
     for input in noise(inputs.random(FOR_NOISE)).chain(long()) {
         drawn(&mut run, &input, ABOUT_NUMBERED);
     }
+    circles(&mut run);
     numbered(&mut run, &inputs, options.cases);
     run.end()
 }
@@ -74,7 +79,7 @@ fn without_library(run: &mut Run) {
             Asks::Code => 1 << u16::BITS,
             _ => 0,
         };
-        (0..count).map(|number| [number, 0, 0]).collect()
+        (0..count).map(|number| [number, 0, 0, 0]).collect()
     });
 }
 
@@ -86,12 +91,27 @@ fn every(run: &mut Run, input: &Input, count: usize) {
         all.extend(pool.drawn(count, asks, random));
         all
     });
+    run.step(input, 0, MOST_LINKS);
 }
 
 /// Asks with so many drawn sets of numbers.
 fn drawn(run: &mut Run, input: &Input, count: usize) {
     let pool = Pool::new(&input.bytes);
     run.ask(input, |asks, random| pool.drawn(count, asks, random));
+    run.step(input, 0, MOST_LINKS);
+}
+
+/// Chains that come round to their first record and to their last, stepped so often from a fresh cursor, and from
+/// counts around the largest, where the number stays.
+fn circles(run: &mut Run) {
+    for (word, end) in [("comes round", 0), ("ends in a circle of one", 64)] {
+        let name = format!("a chain of five that {word}");
+        let input = Input::new(name, large::coclasses(1, 5, end));
+        drawn(run, &input, ABOUT_OTHER);
+        for count in [0, usize::MAX - 2, usize::MAX - 1, usize::MAX] {
+            run.step(&input, count, STEPS_ROUND);
+        }
+    }
 }
 
 /// Made-up records, each at the very end of a library without tables and each alone, asked for what its
@@ -107,7 +127,7 @@ fn made_records(run: &mut Run, random: &mut Random) {
 }
 
 fn made_record(run: &mut Run, kind: Kind, head: &[u8], record: &records::Record) {
-    let whole = [head.len(), record.bytes.len(), record.arg as usize];
+    let whole = [head.len(), record.bytes.len(), record.arg as usize, 0];
     let bytes = [head, &record.bytes].concat();
     let pool = Pool::new(&bytes);
     let input = Input::new(format!("a made-up {}", kind.name()), bytes);
@@ -137,7 +157,7 @@ fn without_magic(run: &mut Run, inputs: &Inputs) {
 fn stored_constants(run: &mut Run) {
     for input in constants::libraries() {
         run.ask(&input, |asks, _| match asks {
-            Asks::Word(Words::Constant) => vec![[0; 3]],
+            Asks::Word(Words::Constant) => vec![[0; 4]],
             _ => Vec::new(),
         });
     }

@@ -1,6 +1,6 @@
 //! One run of comparisons: what was tried, what came up, and what differed.
 
-use std::collections::BTreeSet;
+use std::collections::{BTreeMap, BTreeSet};
 use std::process::ExitCode;
 use std::time::{Duration, Instant};
 
@@ -13,7 +13,7 @@ use bounded::comparing::shrink::shrink;
 use bounded::comparing::{report, stopped};
 use bounded::exports::answer::Answer;
 use bounded::exports::numbers::{Asks, Numbers};
-use bounded::exports::{self, Export, Parsed};
+use bounded::exports::{self, Export, Parsed, stepped};
 use bounded::inputs::Input;
 use bounded::random::Random;
 use bounded::sheet::{MOST_BYTES, refusal};
@@ -31,8 +31,8 @@ const SHRINKING: Duration = Duration::from_secs(5);
 /// How long an output is lent where the reply is a refusal at any length.
 const ROOM_FOR_REFUSED: usize = 64;
 
-/// The bytes of a cursor's last number.
-const LAST_NUMBER: usize = 8;
+/// The bytes of a cursor's last two numbers.
+const LAST_NUMBERS: usize = 16;
 
 /// An export, the same over the reference as it is, and what was counted of it.
 struct Driven {
@@ -48,6 +48,15 @@ struct Both<'a> {
     own: own::Parsed<'a>,
 }
 
+impl<'a> Both<'a> {
+    fn new(bytes: &'a [u8]) -> Self {
+        Both {
+            kept: Parsed::new(bytes),
+            own: own::Parsed::new(bytes),
+        }
+    }
+}
+
 pub struct Run {
     driven: Vec<Driven>,
     declared: Vec<Declared>,
@@ -55,6 +64,8 @@ pub struct Run {
     /// The cases in which something was cut, and what.
     cut_cases: u64,
     cut: Notes,
+    /// How often cursors were stepped from their start, by the export that steps.
+    stepped: BTreeMap<&'static str, usize>,
     inputs: u64,
     random: Random,
     lent: Lent,
@@ -77,6 +88,7 @@ impl Run {
             kinds: Kinds::default(),
             cut_cases: 0,
             cut: Notes::default(),
+            stepped: BTreeMap::new(),
             inputs: 0,
             random: Random::new(seed),
             lent: Lent::default(),
@@ -127,10 +139,7 @@ impl Run {
             _ => Side::End,
         };
         self.lent.hold(&input.bytes, side);
-        let both = Both {
-            kept: Parsed::new(&input.bytes),
-            own: own::Parsed::new(&input.bytes),
-        };
+        let both = Both::new(&input.bytes);
         let cut_before = self.cut_cases;
         self.ask_all(&both, &input.name, numbers);
         self.kinds.add(self.cut_cases > cut_before);
@@ -201,6 +210,56 @@ impl Run {
         }
     }
 
+    /// Steps every cursor of the library that was asked about last from its start, with this count set before, and
+    /// holds its records and their numbers to the reference's iterators with `enumerate`. Of a chain there are at most
+    /// so many records.
+    pub fn step(&mut self, input: &Input, count: usize, most_links: usize) {
+        let both = Both::new(&input.bytes);
+        let (Ok(kept), Ok(right)) = (&both.kept.lib, &both.own.lib) else {
+            return;
+        };
+        let (all, notes) = noting(|| stepped::all(kept, most_links));
+        if notes.is_empty() {
+            let right = own::stepped::all(right, most_links);
+            let mut both = all.iter().zip(&right);
+            let are_same = both.all(|(one, two)| one.yielded == two.yielded);
+            assert!(all.len() == right.len() && are_same, "nothing was cut");
+        }
+        for cursor in all.iter().filter(|cursor| count == 0 || cursor.has_count()) {
+            self.step_one(cursor, count, input);
+        }
+    }
+
+    fn step_one(&mut self, cursor: &stepped::Stepped, count: usize, input: &Input) {
+        let step = cursor.kind.step;
+        let at = self.number_of(step);
+        if self.driven[at].differs {
+            return;
+        }
+        stopped::trying(&format!("{step} from its start, {}", input.name));
+        *self.stepped.entry(step).or_default() += cursor.yielded.len();
+        let wrong = cursor.difference(count, |name, numbers, out| {
+            let export = &self.driven[self.number_of(name)].export;
+            self.lent.reply(|lib| export.call.reply(lib, numbers, out))
+        });
+        if let Some(wrong) = wrong {
+            self.driven[at].differs = true;
+            let numbers = cursor.numbers;
+            println!(
+                "DIFFERENCE: {step} stepped from {numbers:x?} and count {count:x} at {}: {wrong}",
+                input.name
+            );
+            report::keep(&input.bytes, self.differing());
+        }
+    }
+
+    /// The number of the export that has this name.
+    fn number_of(&self, name: &str) -> usize {
+        let mut exports = self.driven.iter().map(|driven| &driven.export);
+        let number = exports.position(|export| export.name == name);
+        number.expect("a cursor's exports are driven")
+    }
+
     /// Prints the counts.
     pub fn end(self) -> ExitCode {
         stopped::done();
@@ -228,9 +287,13 @@ impl Run {
             self.cut_cases
         );
         println!("reads that were cut: {}", self.cut);
+        println!("steps of cursors from their start: {:?}", self.stepped);
         let tallies = self.driven.iter().map(|driven| &driven.tally);
         let mut faults: Vec<String> = tallies.flat_map(Tally::faults).collect();
         faults.extend(self.cut.missing(&Read::ALL));
+        let steps = stepped::KINDS.map(|kind| kind.step).into_iter();
+        let unstepped = steps.filter(|step| self.stepped.get(step).is_none_or(|count| *count == 0));
+        faults.extend(unstepped.map(|step| format!("{step}: not stepped")));
         for fault in &faults {
             println!("not covered as it should be: {fault}");
         }
@@ -265,7 +328,7 @@ fn difference(
         (Answer::Row(row), true) => Ok(row.as_slice().into()),
         (Answer::Ended(row), true) => Ok(Written {
             bytes: row,
-            free: row.len() - LAST_NUMBER,
+            free: row.len() - LAST_NUMBERS,
         }),
         (Answer::Refused(number), true) => Err(*number),
         (Answer::Number(number), false) => {

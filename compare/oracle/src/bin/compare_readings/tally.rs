@@ -8,7 +8,8 @@ use bounded::c_header::{Declared, Lengths};
 use bounded::coverage::{INLINE_CODES, stored_codes};
 use bounded::exports::Export;
 use bounded::exports::answer::Answer;
-use bounded::exports::numbers::Numbers;
+use bounded::exports::numbers::{Asks, Numbers};
+use bounded::exports::pool::EDGE_COUNTS;
 use bounded::readings::NOTHING;
 use bounded::sheet::refusal;
 
@@ -45,6 +46,8 @@ pub struct Tally {
     lengths: BTreeSet<usize>,
     /// Codes of constants, by whether they are stored.
     codes: BTreeSet<(bool, u16)>,
+    /// Of a cursor's step: which of its numbers is the count, and the edges that this had where it came to a value.
+    counts: Option<(usize, BTreeSet<usize>)>,
 }
 
 impl Tally {
@@ -63,6 +66,10 @@ impl Tally {
             alone: export.needs_no_library().then(Alone::default),
             lengths: BTreeSet::new(),
             codes: BTreeSet::new(),
+            counts: match export.asks {
+                Asks::Cursor(cursor) => Some((cursor.count_at(), BTreeSet::new())),
+                _ => None,
+            },
         }
     }
 
@@ -82,6 +89,9 @@ impl Tally {
                 self.values += 1;
                 self.refused[usize::from(refusal::NO_SPACE)] += TOO_SHORT;
                 self.lengths.insert(row.len());
+                if let Some((at, counts)) = &mut self.counts {
+                    counts.extend(EDGE_COUNTS.iter().filter(|count| **count == numbers[*at]));
+                }
                 if self.name == CONSTANTS {
                     let is_stored = numbers[0] as i32 >= 0;
                     self.codes
@@ -122,6 +132,7 @@ impl Tally {
         }
         faults.extend(self.missing_alone());
         faults.extend(self.missing_codes());
+        faults.extend(self.missing_counts());
         let named = |fault| format!("{}: {fault}", self.name);
         faults.into_iter().map(named).collect()
     }
@@ -154,6 +165,16 @@ impl Tally {
     pub fn alone(&self) -> (u64, u64) {
         let alone = self.alone.as_ref();
         alone.map_or((0, 0), |alone| (alone.values, alone.nothing))
+    }
+
+    fn missing_counts(&self) -> Vec<String> {
+        let Some((_, counts)) = &self.counts else {
+            return Vec::new();
+        };
+        let missing = EDGE_COUNTS.iter().filter(|count| !counts.contains(count));
+        missing
+            .map(|count| format!("no value from a count of {count:x}"))
+            .collect()
     }
 
     fn missing_codes(&self) -> Vec<String> {

@@ -160,8 +160,8 @@ fn of_words(made: Made, ask: Ask, words: &[(u32, &[u8])]) -> Vec<Library> {
         .collect()
 }
 
-/// A function of 23 bytes ends the functions, and one of 24 is yielded. Before each answer stands how
-/// many are left.
+/// A function of 23 bytes ends the functions, and one of 24 is yielded: its number is 0, and 1 is yielded then. Before
+/// each answer stands how many are left.
 fn funcs() -> Vec<Library> {
     [23, 24]
         .map(|size: u16| {
@@ -177,9 +177,14 @@ fn funcs() -> Vec<Library> {
             let mut place = vec![0];
             place.extend((block_at as u64 + 4).to_le_bytes());
             place.extend(24u64.to_le_bytes());
+            let number = &[0, 0, 0, 0, 0, 0, 0, 0, 0, 1, 0, 0, 0, 0, 0, 0, 0];
             match size {
                 23 => expect(library, Ask::Funcs, &[one_left, &[9], one_left, &[9]]),
-                _ => expect(library, Ask::Funcs, &[one_left, &place, none_left, &[9]]),
+                _ => expect(
+                    library,
+                    Ask::Funcs,
+                    &[one_left, &place, number, none_left, &[9]],
+                ),
             }
         })
         .into()

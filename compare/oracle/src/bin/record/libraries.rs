@@ -2,7 +2,7 @@
 
 use std::collections::HashSet;
 
-use bounded::library::Question;
+use bounded::library::{Ask, Question};
 
 use crate::file::Item;
 use crate::judged::{Asked, judged};
@@ -35,6 +35,16 @@ impl Library {
         asked.retain(|question| seen.insert(*question));
         let asked = judged(&bytes, &bytes, &asked);
         Library { bytes, asked }
+    }
+
+    /// The same questions, and those of its cursors from counts too.
+    pub fn from_counts(self) -> Self {
+        let asked = self.asked.answered.iter().map(|(question, _)| *question);
+        let mut asked: Vec<Question> = asked.collect();
+        let cursors = asked.clone().into_iter();
+        let cursors = cursors.filter(|one| Ask::Typeinfos < one.ask && one.ask < Ask::Walk);
+        asked.extend(cursors.flat_map(questions::from_counts));
+        Library::asked(self.bytes, asked)
     }
 }
 

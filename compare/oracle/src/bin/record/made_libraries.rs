@@ -8,7 +8,7 @@ use bounded::library::{
 
 use crate::edges;
 use crate::libraries::Library;
-use crate::questions::{of_word, question};
+use crate::questions::{from_counts, of_word, question};
 
 /// The size of a typeinfo's record.
 pub const TYPEINFO_SIZE: usize = 100;
@@ -527,7 +527,7 @@ fn members() -> Vec<Library> {
     };
     vec![
         // Two functions and two variables, with names; the third has none in UTF-8.
-        of(104, &[&long, &func(28, 0, 28), &v, &v], 2, 2, &BEHIND),
+        of(104, &[&long, &func(28, 0, 28), &v, &v], 2, 2, &BEHIND).from_counts(),
         // The last function ends past the block, and the file goes on or ends there.
         of(25, &[&f, &f40], 2, 0, &BEHIND),
         of(25, &[&f, &f40], 2, 0, &[]),
@@ -544,7 +544,7 @@ fn members() -> Vec<Library> {
         // Fewer are declared than there are, and more.
         of(96, &[&f, &v24, &v24], 1, 1, &BEHIND),
         of(48, &[&f, &f], 9, 9, &BEHIND),
-        params(),
+        params().from_counts(),
         // A block whose size is no signed number, and one that is cut off.
         of(0xFFFF_FFFF, &[&f, &v], 1, 1, &BEHIND),
         of(0, &[], 1, 1, &[]),
@@ -634,8 +634,13 @@ fn chains(with_table: bool) -> Library {
     let mut asked = Vec::new();
     for number in 0..starts.len() as u32 {
         let numbers = [at + 100 * number, TYPEINFO_SIZE as u32, 0];
-        asked.push(question(Ask::ImplTypes, numbers));
-        asked.push(question(Ask::Walk, numbers));
+        for chain in [Ask::ImplTypes, Ask::Walk].map(|ask| question(ask, numbers)) {
+            asked.push(chain);
+            // A chain of three, and one that comes round.
+            if [2, 5].contains(&number) {
+                asked.extend(from_counts(chain));
+            }
+        }
     }
     Library::of_members(made.bytes(), asked)
 }
@@ -676,7 +681,11 @@ fn tables() -> Vec<Library> {
             let mut made = Made::new(&[0, 100]);
             // The table is a byte short; and then the file is, which the table passes.
             made.segment(segment, &bytes[..bytes.len() - missing]);
-            libraries.push(made.library(Vec::new()));
+            let library = made.library(Vec::new());
+            libraries.push(match missing {
+                0 => library.from_counts(),
+                _ => library,
+            });
         }
     }
     for (segment, bytes) in tables {

@@ -34,6 +34,12 @@ pub fn of_word(ask: Ask, word: u32) -> Question {
     question(ask, [word, 0, 0])
 }
 
+/// The same of a cursor whose count is set to each of the two largest.
+pub fn from_counts(of_cursor: Question) -> [Question; 2] {
+    let [at, len, _] = of_cursor.numbers;
+    [1, 2].map(|below| question(of_cursor.ask, [at, len, below]))
+}
+
 /// The sheet in an output that has room for any of ours, in one as long as the sheet, and in one that is
 /// a byte shorter.
 pub fn of_sheet(data: &[u8]) -> Vec<Question> {

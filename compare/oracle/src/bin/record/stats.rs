@@ -4,7 +4,7 @@
 use std::collections::{BTreeMap, HashSet};
 
 use bounded::comparing::kinds::Kinds;
-use bounded::library::{Ask, Question};
+use bounded::library::{Ask, NUMBER, Question};
 use bounded::readings::{Kind, Reading, VALUE};
 
 use crate::beside::Pair;
@@ -143,6 +143,16 @@ fn refusals_of(ask: Ask) -> &'static [u8] {
     }
 }
 
+/// The numbers that records must have been seen with: the first, and from counts the two largest. Typeinfos are
+/// numbered by their index.
+fn numbers_of(ask: Ask) -> &'static [u64] {
+    match ask {
+        Ask::Typeinfos => &[0],
+        _ if Ask::Typeinfos < ask && ask < Ask::Walk => &[0, u64::MAX - 1, u64::MAX],
+        _ => &[],
+    }
+}
+
 /// The cases of an answer that holds one of several: what the first answer to a question says.
 fn case_of(question: Question, readings: &[Reading]) -> Option<String> {
     let word = question.numbers[0];
@@ -238,6 +248,7 @@ struct Answered<'a> {
     values: usize,
     different_values: HashSet<&'a [u8]>,
     refusals: BTreeMap<u8, usize>,
+    numbers: HashSet<u64>,
 }
 
 impl<'a> Answered<'a> {
@@ -246,7 +257,11 @@ impl<'a> Answered<'a> {
         let all = libraries.iter().flat_map(|library| &library.asked.answered);
         for (_, readings) in all.filter(|(question, _)| question.ask == ask) {
             answered.questions += 1;
-            for Reading { answer, .. } in readings {
+            for Reading { answer, method, .. } in readings {
+                if *method == NUMBER {
+                    let number = answer[1..9].try_into().expect("eight bytes");
+                    answered.numbers.insert(u64::from_le_bytes(number));
+                }
                 if answer[0] == VALUE {
                     answered.values += 1;
                     answered.different_values.insert(answer);
@@ -258,10 +273,13 @@ impl<'a> Answered<'a> {
         answered
     }
 
-    /// Whether the reading was seen to give values and every refusal that it can give.
+    /// Whether the reading was seen to give values, every refusal that it can give, and the first and the last numbers.
     fn each_way(&self, ask: Ask) -> bool {
         let refused = |number| self.refusals.contains_key(number);
-        self.values > 0 && refusals_of(ask).iter().all(refused)
+        let numbered = |number| self.numbers.contains(number);
+        self.values > 0
+            && refusals_of(ask).iter().all(refused)
+            && numbers_of(ask).iter().all(numbered)
     }
 }
 

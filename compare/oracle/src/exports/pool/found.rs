@@ -10,8 +10,8 @@ use crate::readings::{Kind, place_in};
 use crate::{FuncRecord, GuidEntry, ImpInfo, TypeInfoEntry, TypeLib, VarRecord};
 
 /// The type indexes that are taken as real, and the records of a chain, which may have no end.
-const MOST_TYPES: usize = 3_000;
-const MOST_LINKS: usize = 40;
+pub const MOST_TYPES: usize = 3_000;
+pub const MOST_LINKS: usize = 40;
 
 /// The segments of a directory.
 pub const SEGMENTS: usize = 15;
@@ -44,31 +44,31 @@ impl Found {
     }
 
     fn add_word(&mut self, words: Words, word: i32) {
-        self.add(Asks::Word(words), [word as u32 as usize, 0, 0]);
+        self.add(Asks::Word(words), [word as u32 as usize, 0, 0, 0]);
     }
 
     fn records(&mut self, lib: &TypeLib) {
         for placed in enumerate::records(lib) {
-            self.add(Asks::Record(placed.kind), [placed.at, placed.len, 0]);
+            self.add(Asks::Record(placed.kind), [placed.at, placed.len, 0, 0]);
         }
         for entry in lib.names() {
             let text = entry.name().as_bytes();
-            let numbers = [place_in(lib.data(), text), text.len(), 0];
+            let numbers = [place_in(lib.data(), text), text.len(), 0, 0];
             self.add(Asks::Record(Kind::Name), numbers);
         }
     }
 
     fn indexes(&mut self, lib: &TypeLib) {
         for index in 0..SEGMENTS + 2 {
-            self.add(Asks::Segment, [index, 0, 0]);
+            self.add(Asks::Segment, [index, 0, 0, 0]);
         }
         for index in 0..lib.typeinfo_count().min(MOST_TYPES) + 2 {
-            self.add(Asks::Type, [index, 0, 0]);
+            self.add(Asks::Type, [index, 0, 0, 0]);
         }
         // Each search goes through the whole table of names, so few types are asked for many.
         for index in 0..lib.typeinfo_count().min(8) + 1 {
             for k in 0..4 {
-                self.add(Asks::Member, [index, k, 0]);
+                self.add(Asks::Member, [index, k, 0, 0]);
             }
         }
     }
@@ -90,11 +90,11 @@ impl Found {
         let mut guids = lib.guids();
         for index in 0.. {
             let [pos, end] = guids.numbers();
-            self.add(Asks::Cursor(Cursor::Guids), [pos, end, 0]);
+            self.add(Asks::Cursor(Cursor::Guids), [pos, end, index, 0]);
             if guids.next().is_none() {
                 return;
             }
-            self.add_word(Words::Guid, index * GuidEntry::SIZE as i32);
+            self.add_word(Words::Guid, (index * GuidEntry::SIZE) as i32);
         }
     }
 
@@ -102,20 +102,20 @@ impl Found {
         let mut imports = lib.imports();
         for index in 0.. {
             let [pos, end] = imports.numbers();
-            self.add(Asks::Cursor(Cursor::Imports), [pos, end, 0]);
+            self.add(Asks::Cursor(Cursor::Imports), [pos, end, index, 0]);
             let Some(import) = imports.next() else {
                 return;
             };
             self.add_word(Words::ImportFile, import.imp_file_offset());
-            self.add_word(Words::Reference, index * ImpInfo::SIZE as i32 + 1);
+            self.add_word(Words::Reference, (index * ImpInfo::SIZE + 1) as i32);
         }
     }
 
     fn import_files(&mut self, lib: &TypeLib) {
         let mut files = lib.imp_files();
-        loop {
+        for index in 0.. {
             let [pos, end] = files.numbers();
-            self.add(Asks::Cursor(Cursor::ImportFiles), [pos, end, 0]);
+            self.add(Asks::Cursor(Cursor::ImportFiles), [pos, end, index, 0]);
             if files.next().is_none() {
                 return;
             }
@@ -124,8 +124,9 @@ impl Found {
 
     fn names(&mut self, lib: &TypeLib) {
         let mut names = lib.names();
-        loop {
-            self.add(Asks::Cursor(Cursor::Names), names.numbers());
+        for index in 0.. {
+            let [pos, end, start] = names.numbers();
+            self.add(Asks::Cursor(Cursor::Names), [pos, end, start, index]);
             let Some(entry) = names.next() else {
                 return;
             };
@@ -169,9 +170,10 @@ impl Found {
     fn chain(&mut self, lib: &TypeLib, typeinfo: &TypeInfoEntry) {
         let (_, len) = self.segments[REFERENCE_SEGMENT];
         let mut chain = lib.impl_types(typeinfo);
-        for _ in 0..MOST_LINKS {
+        for index in 0..MOST_LINKS {
             let (at, next) = chain.numbers();
-            self.add(Asks::Cursor(Cursor::Chain), [at, len, next as u32 as usize]);
+            let numbers = [at, len, next as u32 as usize, index];
+            self.add(Asks::Cursor(Cursor::Chain), numbers);
             let Some(reference) = chain.next() else {
                 return;
             };
@@ -181,8 +183,9 @@ impl Found {
 
     fn funcs(&mut self, lib: &TypeLib, typeinfo: &TypeInfoEntry) {
         let mut funcs = lib.funcs(typeinfo);
-        loop {
-            self.add(Asks::Cursor(Cursor::Funcs), funcs.numbers());
+        for index in 0.. {
+            let [pos, end, left] = funcs.numbers();
+            self.add(Asks::Cursor(Cursor::Funcs), [pos, end, left, index]);
             let Some(func) = funcs.next() else {
                 return;
             };
@@ -195,8 +198,8 @@ impl Found {
     fn params<'a>(&mut self, lib: &TypeLib<'a>, func: &FuncRecord<'a>) {
         let mut params = lib.params(func);
         for index in 0.. {
-            let numbers = param_numbers(lib, &params).unwrap_or_default();
-            self.add(Asks::Cursor(Cursor::Params), numbers);
+            let [pos, end, left] = param_numbers(lib, &params).unwrap_or_default();
+            self.add(Asks::Cursor(Cursor::Params), [pos, end, left, index]);
             let Some(param) = params.next() else {
                 return;
             };
@@ -210,8 +213,9 @@ impl Found {
 
     fn vars(&mut self, lib: &TypeLib, typeinfo: &TypeInfoEntry) {
         let mut vars = lib.vars(typeinfo);
-        loop {
-            self.add(Asks::Cursor(Cursor::Vars), vars.numbers());
+        for index in 0.. {
+            let [pos, end, left] = vars.numbers();
+            self.add(Asks::Cursor(Cursor::Vars), [pos, end, left, index]);
             let Some(var) = vars.next() else {
                 return;
             };

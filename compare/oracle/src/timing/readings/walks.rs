@@ -75,8 +75,8 @@ fn rust_walk(library: &[u8]) -> u64 {
 fn walk(library: &[u8]) -> u64 {
     let mut out = Out::default();
     let (at, len) = product::typeinfo(library, 0, &mut out).expect("it has a type");
-    let (at, len, next) = product::impl_types(library, at, len, &mut out).expect("it is whole");
-    product::walk(library, at, len, next, &mut out).expect("it ends") as u64
+    let cursor = product::impl_types(library, at, len, &mut out).expect("it is whole");
+    product::walk(library, cursor, &mut out).expect("it ends") as u64
 }
 
 fn rust_members(library: &[u8]) -> u64 {

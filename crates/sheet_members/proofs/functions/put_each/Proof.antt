@@ -1,33 +1,32 @@
-use Rattle.typelib.specs.Header.{library, typeCount}
-use borrow.Author.Needs.{needs}
-use Rattle.sheet_members.specs.Lists.{layAll, laid-more, laid-none, counted-more, counted-none}
+use mathlib.Core.Path.{ap, _∙_, _≡_, sym, subst}
+use Prim.Native.Nat.{_*_, ℕ, _+_, _^_, _<_}
+use Rattle.typelib.specs.TypeInfos.{funcMemid, funcNameOffset}
+use Rattle.util.specs.Read.{read}
+use Rattle.records.specs.Answer.{orNine}
+use Rattle.describe.specs.Values.{found, numbered}
+use Rattle.sheet_members.proofs.WordLaws.{found-signed, memids-are, names-are}
+use Rattle.sheet_members.specs.Lists.{layAll, laid-turn, laid-none, counted-turn, counted-none}
 use Rattle.emit.specs.Laws.{Left, left-all, left-less, left-none, refused-stays}
 use Rattle.emit.specs.Emit.{put}
-use Rattle.describe.specs.YieldLaws.{func-yielded}
 use Rattle.describe.specs.Members.{yields, functionOf}
-use Rattle.describe.specs.Values.{numbered}
 use Rattle.description.specs.Sheet.{edition-one, function}
 use Rattle.cursors.specs.Told.{toldFuncStep}
+use Rattle.cursors.specs.NumberLaws.{func-turn}
 use Rattle.cursors.specs.Cursors.{funcStep}
 use Rattle.cursors.specs.declared.iterators.FuncCursor.{FuncCursor}
 use Rattle.records.specs.AnswerLaws.{tells}
 use lib.ListN.{length}
-use mathlib.Core.Path.{_≡_, ap, _∙_}
-use Rattle.sheet_members.proofs.WordLaws.{found-signed, memids-are, names-are}
-use Rattle.describe.specs.Values.{found}
-use Prim.Native.Nat.{_+_, _*_, _^_, _<_}
 use native.Mathlib.Omega.{arith}
-use Rattle.records.specs.Answer.{orNine}
-use Rattle.util.specs.Read.{read}
-use Rattle.typelib.specs.TypeInfos.{funcMemid, funcNameOffset}
+use borrow.Author.Needs.{needs}
+use Rattle.typelib.specs.Header.{library, typeCount}
 use Rattle.sheet_members.proofs.functions.put_each.Statement.{statement}
 use Rattle.sheet_members.proofs.functions.put_each.Tie as tie
 
 abbrev Inv-loop : tie.InvT-loop
-Inv-loop s lib ti out₀ to rows names t₀ c₀ i₀ out t c i = Left (layAll (function edition-one (typeCount (library lib))) (numbered (functionOf s (library lib) ti) 0 (yields (funcStep s) (c₀ .remaining) c₀))) (put t₀) out₀ (layAll (function edition-one (typeCount (library lib))) (numbered (functionOf s (library lib) ti) i (yields (funcStep s) (c .remaining) c))) (put t) out × (i + c .remaining ≡ c₀ .remaining) × (c₀ .remaining < 2 ^ 64) × (i + length (yields (funcStep s) (c .remaining) c) ≡ length (yields (funcStep s) (c₀ .remaining) c₀))
+Inv-loop s lib ti out₀ to rows names t₀ c₀ out t c = Left (layAll (function edition-one (typeCount (library lib))) (numbered (functionOf s (library lib) ti) 0 (yields (funcStep s) (c₀ .remaining) c₀))) (put t₀) out₀ (layAll (function edition-one (typeCount (library lib))) (numbered (functionOf s (library lib) ti) (c .yielded) (yields (funcStep s) (c .remaining) c))) (put t) out × (c .yielded + c .remaining ≡ c₀ .remaining) × (c₀ .remaining < 2 ^ 64) × (c .yielded + length (yields (funcStep s) (c .remaining) c) ≡ length (yields (funcStep s) (c₀ .remaining) c₀))
 
 abbrev μ-loop : tie.MeasureT-loop
-μ-loop s lib ti out₀ to rows names t₀ c₀ i₀ out t c i = c .remaining
+μ-loop s lib ti out₀ to rows names t₀ c₀ out t c = c .remaining
 
 func-rows-requires : tie.Need-func-rows-requires Inv-loop μ-loop
 func-rows-requires c κs = search needs
@@ -36,7 +35,7 @@ names-of-requires : tie.Need-names-of-requires Inv-loop μ-loop
 names-of-requires c κs = search needs
 
 loop-holds : tie.Need-loop-holds Inv-loop μ-loop
-loop-holds c = (left-all, omega arith, omega arith, omega arith)
+loop-holds c = let z = c .before .before .before .before .pre in (subst (λ (n : ℕ). Left (layAll (function edition-one (typeCount (library (c .before .before .before .before .args .lib .now)))) (numbered (functionOf (c .before .before .before .before .args .s .now) (library (c .before .before .before .before .args .lib .now)) (c .before .before .before .before .args .ti)) 0 (yields (funcStep (c .before .before .before .before .args .s .now)) (c .before .before .before .before .args .cursor .remaining) (c .before .before .before .before .args .cursor)))) (put (c .before .before .before .before .args .to)) (c .before .before .before .before .args .out .now) (layAll (function edition-one (typeCount (library (c .before .before .before .before .args .lib .now)))) (numbered (functionOf (c .before .before .before .before .args .s .now) (library (c .before .before .before .before .args .lib .now)) (c .before .before .before .before .args .ti)) n (yields (funcStep (c .before .before .before .before .args .s .now)) (c .before .before .before .before .args .cursor .remaining) (c .before .before .before .before .args .cursor)))) (put (c .before .before .before .before .args .to)) (c .before .before .before .before .args .out .now)) (sym z) left-all, omega (arith, z), omega arith, omega (arith, z))
 
 same-length : tie.Need-same-length Inv-loop μ-loop
 same-length c = (c .before .loop .inv .0 .finish _ _ (refused-stays (c .if1 .taken))) .keeps
@@ -66,16 +65,13 @@ word-requires-2 : tie.Need-word-requires-2 Inv-loop μ-loop
 word-requires-2 c κs = search needs
 
 put-function-requires : tie.Need-put-function-requires Inv-loop μ-loop
-put-function-requires c κs = let s = c .before .before .before .before .before .before .before .before .before .before .before .before .before .args .s .now in let ti = c .before .before .before .before .before .before .before .before .before .before .before .before .before .args .ti in let i = c .before .before .before .before .before .before .before .before .loop .i in let r = c .before .before .before .before .before .before .before .before .before .before .func-rows .result in (c .before .before .before .before .before .before .before .before .before .names-of .ensures, (ap found (c .before .before .word .ensures) ∙ found-signed (orNine (read 4 s (r .memids + 4 * i))) (funcMemid s ti i) (memids-are s ti (c .before .before .before .before .before .before .before .before .before .before .func-rows .ensures) i), ap found (c .before .word2 .ensures) ∙ found-signed (orNine (read 4 s (r .names + 4 * i))) (funcNameOffset s ti i) (names-are s ti (c .before .before .before .before .before .before .before .before .before .before .func-rows .ensures) i)))
-
-add-i : tie.Need-add-i Inv-loop μ-loop
-add-i c = let e = tells toldFuncStep (c .before .before .before .before .before .before .before .func .given .1) (c .before .before .before .before .before .before .before .before .before .step .ensures) in let l = func-yielded _ _ _ _ e .lessens in omega (arith, c .before .before .before .before .before .before .before .before .before .before .before .loop .inv .1, c .before .before .before .before .before .before .before .before .before .before .before .loop .inv .2, l .some)
+put-function-requires c κs = let s = c .before .before .before .before .before .before .before .before .before .before .before .before .before .args .s .now in let ti = c .before .before .before .before .before .before .before .before .before .before .before .before .before .args .ti in let i = c .before .before .before .before .func .given .0 .1 .0 in let r = c .before .before .before .before .before .before .before .before .before .before .func-rows .result in (c .before .before .before .before .before .before .before .before .before .names-of .ensures, (ap found (c .before .before .word .ensures) ∙ found-signed (orNine (read 4 s (r .memids + 4 * i))) (funcMemid s ti i) (memids-are s ti (c .before .before .before .before .before .before .before .before .before .before .func-rows .ensures) i), ap found (c .before .word2 .ensures) ∙ found-signed (orNine (read 4 s (r .names + 4 * i))) (funcNameOffset s ti i) (names-are s ti (c .before .before .before .before .before .before .before .before .before .before .func-rows .ensures) i)))
 
 loop-less : tie.Need-loop-less Inv-loop μ-loop
-loop-less c = let e = tells toldFuncStep (c .before .before .before .before .before .before .before .func .given .1) (c .before .before .before .before .before .before .before .before .before .step .ensures) in let l = func-yielded _ _ _ _ e .lessens in omega (arith, l .some, l .fewer)
+loop-less c = let e = tells toldFuncStep (c .before .before .before .before .before .before .before .func .given .1) (c .before .before .before .before .before .before .before .before .before .step .ensures) in let t = func-turn (c .before .before .before .before .before .before .before .before .before .before .before .before .before .before .before .before .args .s .now) (omega (arith, c .before .before .before .before .before .before .before .before .before .before .before .loop .inv .1, c .before .before .before .before .before .before .before .before .before .before .before .loop .inv .2)) e in omega (arith, t .lessens .some, t .lessens .fewer)
 
 loop-again : tie.Need-loop-again Inv-loop μ-loop
-loop-again c = let e = tells toldFuncStep (c .before .before .before .before .before .before .before .func .given .1) (c .before .before .before .before .before .before .before .before .before .step .ensures) in let l = func-yielded _ _ _ _ e .lessens in (left-less (c .before .before .before .before .before .before .before .before .before .before .before .loop .inv .0) (c .before .before .put-function .ensures) (laid-more (funcStep (c .before .before .before .before .before .before .before .before .before .before .before .before .before .before .before .before .args .s .now)) (λ (x : FuncCursor). x .remaining) _ _ _ l e), omega (arith, c .before .before .before .before .before .before .before .before .before .before .before .loop .inv .1, l .some, l .fewer), c .before .before .before .before .before .before .before .before .before .before .before .loop .inv .2, counted-more (funcStep (c .before .before .before .before .before .before .before .before .before .before .before .before .before .before .before .before .args .s .now)) (λ (x : FuncCursor). x .remaining) _ _ l e (c .before .before .before .before .before .before .before .before .before .before .before .loop .inv .3))
+loop-again c = let e = tells toldFuncStep (c .before .before .before .before .before .before .before .func .given .1) (c .before .before .before .before .before .before .before .before .before .step .ensures) in let t = func-turn (c .before .before .before .before .before .before .before .before .before .before .before .before .before .before .before .before .args .s .now) (omega (arith, c .before .before .before .before .before .before .before .before .before .before .before .loop .inv .1, c .before .before .before .before .before .before .before .before .before .before .before .loop .inv .2)) e in (left-less (c .before .before .before .before .before .before .before .before .before .before .before .loop .inv .0) (c .before .before .put-function .ensures) (laid-turn (funcStep (c .before .before .before .before .before .before .before .before .before .before .before .before .before .before .before .before .args .s .now)) (λ (x : FuncCursor). x .remaining) (λ (x : FuncCursor). x .yielded) t e _ _), t .sum ∙ c .before .before .before .before .before .before .before .before .before .before .before .loop .inv .1, c .before .before .before .before .before .before .before .before .before .before .before .loop .inv .2, counted-turn (funcStep (c .before .before .before .before .before .before .before .before .before .before .before .before .before .before .before .before .args .s .now)) (λ (x : FuncCursor). x .remaining) (λ (x : FuncCursor). x .yielded) t e _ (c .before .before .before .before .before .before .before .before .before .before .before .loop .inv .3))
 
 pub put-each-spec : {M : Type 1} → statement M
 put-each-spec =
@@ -96,6 +92,5 @@ put-each-spec =
     word-requires
     word-requires-2
     put-function-requires
-    add-i
     loop-less
     loop-again)

@@ -1,4 +1,6 @@
-use mathlib.Core.Path.{ap, refl}
+use mathlib.Core.Path.{sym, _∙_, ap, refl}
+use Rattle.describe.specs.MemberNumbers.{funcs-begun}
+use Rattle.describe.specs.Answers.{answers-value}
 use Rattle.cursors.specs.Told.{toldFuncs}
 use Rattle.emit.specs.Laws.{known}
 use Rattle.sheet_members.proofs.MemberLaws.{functions-some, functions-empty, functions-none, counted}
@@ -22,7 +24,7 @@ returns : tie.Need-returns
 returns c = known (functions-empty _ _ _ _ (c .before .before .before .before .before .before .before .before .before .funcs .ensures) (ap toldFuncs (c .before .before .before .before .before .before .before .cursor .given .1)) (c .if1 .taken)) (c .before .before .before .before .put-u16 .ensures)
 
 put-each-requires : tie.Need-put-each-requires
-put-each-requires c κs = search needs
+put-each-requires c κs = answers-value (funcs-begun (c .before .before .before .before .before .before .before .before .before .before .before .before .before .args .s .now) (c .before .before .before .before .before .before .before .before .before .before .before .before .before .args .ti)) (sym (c .before .before .before .before .before .before .before .before .before .before .funcs .ensures) ∙ ap toldFuncs (c .before .before .before .before .before .before .before .before .cursor .given .1))
 
 overwrite-requires : tie.Need-overwrite-requires
 overwrite-requires c κs = search needs

@@ -38,7 +38,7 @@ same-length : tie.Need-same-length Inv-loop μ-loop
 same-length c = left-none (c .before .before .loop .inv) (laid-end (c .before .before .before .before .before .args .s .now) (c .before .before .before .before .before .args .cursor) (library (c .before .before .before .before .before .args .lib .now)) (c .before .before .before .before .before .args .func) _ (omega arith)) .keeps
 
 returns : tie.Need-returns Inv-loop μ-loop
-returns c = known (laid-all (c .before .before .before .before .before .args .s .now) (c .before .before .before .before .before .args .cursor) (library (c .before .before .before .before .before .args .lib .now)) (c .before .before .before .before .before .args .func)) (left-none (c .before .before .loop .inv) (laid-end (c .before .before .before .before .before .args .s .now) (c .before .before .before .before .before .args .cursor) (library (c .before .before .before .before .before .args .lib .now)) (c .before .before .before .before .before .args .func) _ (omega arith)))
+returns c = known (laid-all (c .before .before .before .before .before .args .s .now) (c .before .before .before .before .before .args .cursor) (library (c .before .before .before .before .before .args .lib .now)) (c .before .before .before .before .before .args .func) (c .before .before .before .before .before .pre .1)) (left-none (c .before .before .loop .inv) (laid-end (c .before .before .before .before .before .args .s .now) (c .before .before .before .before .before .args .cursor) (library (c .before .before .before .before .before .args .lib .now)) (c .before .before .before .before .before .args .func) _ (omega arith)))
 
 pub put-each-spec : {M : Type 1} → statement M
 put-each-spec =

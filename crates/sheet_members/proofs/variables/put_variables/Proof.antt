@@ -1,4 +1,6 @@
-use mathlib.Core.Path.{ap, refl}
+use mathlib.Core.Path.{sym, _∙_, ap, refl}
+use Rattle.describe.specs.MemberNumbers.{vars-begun}
+use Rattle.describe.specs.Answers.{answers-value}
 use Rattle.cursors.specs.Told.{toldVars}
 use Rattle.emit.specs.Laws.{known}
 use Rattle.sheet_members.proofs.MemberLaws.{variables-some, variables-none, counted}
@@ -16,7 +18,7 @@ put-u16-requires : tie.Need-put-u16-requires
 put-u16-requires c κs = search needs
 
 put-each-requires : tie.Need-put-each-requires
-put-each-requires c κs = search needs
+put-each-requires c κs = answers-value (vars-begun (c .before .before .before .before .before .before .before .before .before .before .before .args .s .now) (c .before .before .before .before .before .before .before .before .before .before .before .args .ti)) (sym (c .before .before .before .before .before .before .before .before .vars .ensures) ∙ ap toldVars (c .before .before .before .before .before .before .cursor .given .1))
 
 overwrite-requires : tie.Need-overwrite-requires
 overwrite-requires c κs = search needs

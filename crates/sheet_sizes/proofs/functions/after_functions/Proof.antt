@@ -1,4 +1,6 @@
-use mathlib.Core.Path.{ap, refl}
+use mathlib.Core.Path.{sym, _∙_, ap, refl}
+use Rattle.describe.specs.MemberNumbers.{funcs-begun}
+use Rattle.describe.specs.Answers.{answers-value}
 use Rattle.cursors.specs.Told.{toldFuncs}
 use Rattle.description.specs.Format.{leBytes, length-leBytes}
 use Rattle.emit.specs.Laws.{known, join}
@@ -20,7 +22,7 @@ returns : tie.Need-returns
 returns c = known (functions-empty _ _ _ _ (c .before .before .before .before .before .before .funcs .ensures) (ap toldFuncs (c .before .before .before .before .cursor .given .1)) (c .if1 .taken)) (c .before .before .ahead .ensures _ (length-leBytes 2 _))
 
 after-each-requires : tie.Need-after-each-requires
-after-each-requires c κs = search needs
+after-each-requires c κs = answers-value (funcs-begun (c .before .before .before .before .before .before .before .before .args .s .now) (c .before .before .before .before .before .before .before .before .args .ti)) (sym (c .before .before .before .before .before .before .funcs .ensures) ∙ ap toldFuncs (c .before .before .before .before .cursor .given .1))
 
 enum-told : tie.Need-enum-told
 enum-told c = search needs

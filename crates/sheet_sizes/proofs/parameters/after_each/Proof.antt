@@ -36,7 +36,7 @@ loop-again : tie.Need-loop-again Inv-loop μ-loop
 loop-again c = left-less (c .before .before .before .before .loop .inv) (c .after-parameter .ensures) (laid-one _ _ _ _ _ (c .before .before .before .before .before .before .pre .1) (c .before .before .if1 .taken))
 
 returns : tie.Need-returns Inv-loop μ-loop
-returns c = known (laid-all (c .before .before .before .before .args .s .now) (c .before .before .before .before .args .cursor) (library (c .before .before .before .before .args .lib .now)) (c .before .before .before .before .args .func)) (left-none (c .before .before .loop .inv) (laid-end (c .before .before .before .before .args .s .now) (c .before .before .before .before .args .cursor) (library (c .before .before .before .before .args .lib .now)) (c .before .before .before .before .args .func) _ (omega arith)))
+returns c = known (laid-all (c .before .before .before .before .args .s .now) (c .before .before .before .before .args .cursor) (library (c .before .before .before .before .args .lib .now)) (c .before .before .before .before .args .func) (c .before .before .before .before .pre .1)) (left-none (c .before .before .loop .inv) (laid-end (c .before .before .before .before .args .s .now) (c .before .before .before .before .args .cursor) (library (c .before .before .before .before .args .lib .now)) (c .before .before .before .before .args .func) _ (omega arith)))
 
 pub after-each-spec : {M : Type 1} → statement M
 after-each-spec =

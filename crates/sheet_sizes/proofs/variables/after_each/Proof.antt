@@ -1,37 +1,37 @@
-use Rattle.typelib.specs.Header.{library, typeCount}
-use borrow.Author.Needs.{needs}
-use native.Mathlib.Omega.{arith}
-use Prim.Native.Nat.{_+_, _^_, _<_}
-use mathlib.Core.Path.{_≡_}
-use mathlib.Core.List.{[]}
-use Rattle.records.specs.AnswerLaws.{tells}
-use Rattle.cursors.specs.declared.iterators.VarCursor.{VarCursor}
-use Rattle.cursors.specs.Cursors.{varStep}
-use Rattle.cursors.specs.Told.{toldVarStep}
-use Rattle.description.specs.Sheet.{edition-one, variable}
+use mathlib.Core.Path.{_≡_, sym, subst, _∙_}
 use Rattle.describe.specs.Values.{numbered}
-use Rattle.describe.specs.Members.{yields, variableOf}
-use Rattle.describe.specs.YieldLaws.{var-yielded}
-use Rattle.emit.specs.Emit.{put}
+use Rattle.sheet_members.specs.Lists.{layAll, laid-turn, laid-none}
 use Rattle.emit.specs.Laws.{Left, left-all, left-less, left-none, refused-stays}
-use Rattle.sheet_members.specs.Lists.{layAll, laid-more, laid-none}
+use Rattle.emit.specs.Emit.{put}
+use Rattle.describe.specs.Members.{yields, variableOf}
+use Rattle.description.specs.Sheet.{edition-one, variable}
+use Rattle.cursors.specs.Told.{toldVarStep}
+use Rattle.cursors.specs.NumberLaws.{var-turn}
+use Rattle.cursors.specs.Cursors.{varStep}
+use Rattle.cursors.specs.declared.iterators.VarCursor.{VarCursor}
+use Rattle.records.specs.AnswerLaws.{tells}
+use mathlib.Core.List.{[]}
+use Prim.Native.Nat.{ℕ, _+_, _^_, _<_}
+use native.Mathlib.Omega.{arith}
+use borrow.Author.Needs.{needs}
+use Rattle.typelib.specs.Header.{library, typeCount}
 use Rattle.sheet_sizes.proofs.variables.after_each.Statement.{statement}
 use Rattle.sheet_sizes.proofs.variables.after_each.Tie as tie
 
 abbrev Inv-loop : tie.InvT-loop
-Inv-loop s lib ti to names t₀ c₀ i₀ t c i = Left (layAll (variable edition-one (typeCount (library lib))) (numbered (variableOf s (library lib) ti) 0 (yields (varStep s) (c₀ .remaining) c₀))) (put t₀) [] (layAll (variable edition-one (typeCount (library lib))) (numbered (variableOf s (library lib) ti) i (yields (varStep s) (c .remaining) c))) (put t) [] × (i + c .remaining ≡ c₀ .remaining) × (c₀ .remaining < 2 ^ 64)
+Inv-loop s lib ti to names t₀ c₀ t c = Left (layAll (variable edition-one (typeCount (library lib))) (numbered (variableOf s (library lib) ti) 0 (yields (varStep s) (c₀ .remaining) c₀))) (put t₀) [] (layAll (variable edition-one (typeCount (library lib))) (numbered (variableOf s (library lib) ti) (c .yielded) (yields (varStep s) (c .remaining) c))) (put t) [] × (c .yielded + c .remaining ≡ c₀ .remaining) × (c₀ .remaining < 2 ^ 64)
 
 abbrev μ-loop : tie.MeasureT-loop
-μ-loop s lib ti to names t₀ c₀ i₀ t c i = c .remaining
+μ-loop s lib ti to names t₀ c₀ t c = c .remaining
 
 names-of-requires : tie.Need-names-of-requires Inv-loop μ-loop
 names-of-requires c κs = search needs
 
 loop-holds : tie.Need-loop-holds Inv-loop μ-loop
-loop-holds c = (left-all, omega arith, omega arith)
+loop-holds c = let z = c .before .before .pre in (subst (λ (n : ℕ). Left (layAll (variable edition-one (typeCount (library (c .before .before .args .lib .now)))) (numbered (variableOf (c .before .before .args .s .now) (library (c .before .before .args .lib .now)) (c .before .before .args .ti)) 0 (yields (varStep (c .before .before .args .s .now)) (c .before .before .args .cursor .remaining) (c .before .before .args .cursor)))) (put (c .before .before .args .to)) [] (layAll (variable edition-one (typeCount (library (c .before .before .args .lib .now)))) (numbered (variableOf (c .before .before .args .s .now) (library (c .before .before .args .lib .now)) (c .before .before .args .ti)) n (yields (varStep (c .before .before .args .s .now)) (c .before .before .args .cursor .remaining) (c .before .before .args .cursor)))) (put (c .before .before .args .to)) []) (sym z) left-all, omega (arith, z), omega arith)
 
 returns : tie.Need-returns Inv-loop μ-loop
-returns c = c .before .loop .inv .0 .finish _ _ (refused-stays (c .if1 .taken))
+returns c = (c .before .loop .inv .0) .finish _ _ (refused-stays (c .if1 .taken))
 
 step-requires : tie.Need-step-requires Inv-loop μ-loop
 step-requires c κs = search needs
@@ -48,14 +48,11 @@ returns-2 c = left-none (c .before .before .before .before .loop .inv .0) (laid-
 after-variable-requires : tie.Need-after-variable-requires Inv-loop μ-loop
 after-variable-requires c κs = c .before .before .before .before .before .before .names-of .ensures
 
-add-i : tie.Need-add-i Inv-loop μ-loop
-add-i c = let e = tells toldVarStep (c .before .before .var .given .1) (c .before .before .before .before .step .ensures) in let l = var-yielded _ _ _ _ e .lessens in omega (arith, c .before .before .before .before .before .before .loop .inv .1, c .before .before .before .before .before .before .loop .inv .2, l .some)
-
 loop-less : tie.Need-loop-less Inv-loop μ-loop
-loop-less c = let e = tells toldVarStep (c .before .before .var .given .1) (c .before .before .before .before .step .ensures) in let l = var-yielded _ _ _ _ e .lessens in omega (arith, l .some, l .fewer)
+loop-less c = let e = tells toldVarStep (c .before .before .var .given .1) (c .before .before .before .before .step .ensures) in let t = var-turn (c .before .before .before .before .before .before .before .before .before .args .s .now) (omega (arith, c .before .before .before .before .before .before .loop .inv .1, c .before .before .before .before .before .before .loop .inv .2)) e in omega (arith, t .lessens .some, t .lessens .fewer)
 
 loop-again : tie.Need-loop-again Inv-loop μ-loop
-loop-again c = let e = tells toldVarStep (c .before .before .var .given .1) (c .before .before .before .before .step .ensures) in let l = var-yielded _ _ _ _ e .lessens in (left-less (c .before .before .before .before .before .before .loop .inv .0) (c .after-variable .ensures) (laid-more (varStep (c .before .before .before .before .before .before .before .before .before .args .s .now)) (λ (x : VarCursor). x .remaining) _ _ _ l e), omega (arith, c .before .before .before .before .before .before .loop .inv .1, l .some, l .fewer), c .before .before .before .before .before .before .loop .inv .2)
+loop-again c = let e = tells toldVarStep (c .before .before .var .given .1) (c .before .before .before .before .step .ensures) in let t = var-turn (c .before .before .before .before .before .before .before .before .before .args .s .now) (omega (arith, c .before .before .before .before .before .before .loop .inv .1, c .before .before .before .before .before .before .loop .inv .2)) e in (left-less (c .before .before .before .before .before .before .loop .inv .0) (c .after-variable .ensures) (laid-turn (varStep (c .before .before .before .before .before .before .before .before .before .args .s .now)) (λ (x : VarCursor). x .remaining) (λ (x : VarCursor). x .yielded) t e _ _), t .sum ∙ c .before .before .before .before .before .before .loop .inv .1, c .before .before .before .before .before .before .loop .inv .2)
 
 pub after-each-spec : {M : Type 1} → statement M
 after-each-spec =
@@ -71,6 +68,5 @@ after-each-spec =
     enum-told
     returns-2
     after-variable-requires
-    add-i
     loop-less
     loop-again)

@@ -1,8 +1,10 @@
+use mathlib.Core.Path.{sym, _∙_, ap, refl}
+use Rattle.describe.specs.MemberNumbers.{vars-begun}
+use Rattle.describe.specs.Answers.{answers-value}
 use Rattle.sheet_members.proofs.MemberLaws.{variables-some, variables-none}
 use Rattle.emit.specs.Laws.{known, join}
 use Rattle.description.specs.Format.{leBytes, length-leBytes}
 use Rattle.cursors.specs.Told.{toldVars}
-use mathlib.Core.Path.{ap, refl}
 use borrow.Author.Needs.{needs}
 use Rattle.sheet_sizes.proofs.variables.after_variables.Statement.{statement}
 use Rattle.sheet_sizes.proofs.variables.after_variables.Tie as tie
@@ -17,7 +19,7 @@ ahead-requires : tie.Need-ahead-requires
 ahead-requires c κs = search needs
 
 after-each-requires : tie.Need-after-each-requires
-after-each-requires c κs = search needs
+after-each-requires c κs = answers-value (vars-begun (c .before .before .before .before .before .before .args .s .now) (c .before .before .before .before .before .before .args .ti)) (sym (c .before .before .before .before .vars .ensures) ∙ ap toldVars (c .before .before .cursor .given .1))
 
 enum-told : tie.Need-enum-told
 enum-told c = search needs

@@ -10,7 +10,7 @@ use Rattle.table_cursors.proofs.iterators.imp_files.Tie as tie
 
 -- the cursor over a table, at its start
 abbrev begun : Place → Answer ImpFileCursor
-begun table = value (record { pos = table .at; end = table .at + table .len })
+begun table = value (record { pos = table .at; end = table .at + table .len; yielded = 0 })
 
 returns : tie.Need-returns
 returns c = lent-long _ _ (c .if1 .taken)

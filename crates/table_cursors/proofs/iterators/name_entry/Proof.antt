@@ -1,3 +1,4 @@
+use Rattle.table_cursors.specs.Cursors.{overNames}
 use Rattle.cursors.specs.CursorLaws.{fixed}
 use Rattle.table_cursors.specs.CursorLaws.{name-before, name-none, name-some, name-text}
 use Rattle.typelib.specs.TableLaws.{lent-long, lent-fits}
@@ -14,7 +15,7 @@ returns : tie.Need-returns
 returns c = lent-long _ _ (c .if1 .taken)
 
 returns-2 : tie.Need-returns-2
-returns-2 c = lent-fits _ _ _ (c .before .before .if1 .left) (name-before (c .before .before .before .before .args .s .now) (c .before .before .before .before .args .c) (c .if2 .taken))
+returns-2 c = lent-fits _ _ _ (c .before .before .if1 .left) (name-before (c .before .before .before .before .args .s .now) (overNames .stands (c .before .before .before .before .args .c)) (c .if2 .taken))
 
 fixed-at-requires : tie.Need-fixed-at-requires
 fixed-at-requires c κs = search needs
@@ -50,13 +51,13 @@ enum-known-n-2 : tie.Need-enum-known-n-2
 enum-known-n-2 c = search needs
 
 returns-3 : tie.Need-returns-3
-returns-3 c = lent-fits _ _ _ (c .before .before .before .before .before .before .before .before .before .before .before .before .if1 .left) (name-some (c .before .before .before .before .before .before .before .before .before .before .before .before .before .before .args .s .now) (c .before .before .before .before .before .before .before .before .before .before .before .before .before .before .args .c) _ _ (c .before .before .before .before .before .before .before .before .before .before .if2 .left) (tells toldPlace (c .before .before .before .before .before .before .before .enum-told .given .1) (c .before .before .before .before .before .before .before .before .before .fixed-at .ensures)) (map-value _ _ _ _ (tells toldPlace (c .before .before .text2 .given .1) (name-text (c .before .before .before .before .before .before .before .before .before .before .before .before .before .before .args .s .now) (c .before .before .before .before .before .before .before .before .before .before .before .before .before .before .args .c) _ _ _ (c .before .before .before .before .before .before .before .before .before .before .before .before .if1 .left) (read-zero 1 (c .before .before .before .before .before .before .before .before .before .before .before .before .before .before .args .s .now) ((c .before .before .before .before .before .before .before .before .before .before .before .before .before .before .args .c) .pos + 8) _ (let h = fixed (c .before .before .before .before .before .before .before .before .before .before .before .before .before .before .args .s .now) ((c .before .before .before .before .before .before .before .before .before .before .before .before .before .before .args .c) .pos) ((c .before .before .before .before .before .before .before .before .before .before .before .before .before .before .args .c) .end) 12 _ (tells toldPlace (c .before .before .before .before .before .before .before .enum-told .given .1) (c .before .before .before .before .before .before .before .before .before .fixed-at .ensures)) in omega arith) (c .before .before .before .before .before .before .u8-or-zero .ensures)) (c .before .before .before .before .before .entry-text .ensures) (c .before .before .before .before .text .ensures))) (c .name-entry-from .ensures)))
+returns-3 c = lent-fits _ _ _ (c .before .before .before .before .before .before .before .before .before .before .before .before .if1 .left) (name-some (c .before .before .before .before .before .before .before .before .before .before .before .before .before .before .args .s .now) (overNames .stands (c .before .before .before .before .before .before .before .before .before .before .before .before .before .before .args .c)) _ _ (c .before .before .before .before .before .before .before .before .before .before .if2 .left) (tells toldPlace (c .before .before .before .before .before .before .before .enum-told .given .1) (c .before .before .before .before .before .before .before .before .before .fixed-at .ensures)) (map-value _ _ _ _ (tells toldPlace (c .before .before .text2 .given .1) (name-text (c .before .before .before .before .before .before .before .before .before .before .before .before .before .before .args .s .now) (overNames .stands (c .before .before .before .before .before .before .before .before .before .before .before .before .before .before .args .c)) _ _ _ (c .before .before .before .before .before .before .before .before .before .before .before .before .if1 .left) (read-zero 1 (c .before .before .before .before .before .before .before .before .before .before .before .before .before .before .args .s .now) ((c .before .before .before .before .before .before .before .before .before .before .before .before .before .before .args .c) .pos + 8) _ (let h = fixed (c .before .before .before .before .before .before .before .before .before .before .before .before .before .before .args .s .now) ((c .before .before .before .before .before .before .before .before .before .before .before .before .before .before .args .c) .pos) ((c .before .before .before .before .before .before .before .before .before .before .before .before .before .before .args .c) .end) 12 _ (tells toldPlace (c .before .before .before .before .before .before .before .enum-told .given .1) (c .before .before .before .before .before .before .before .before .before .fixed-at .ensures)) in omega arith) (c .before .before .before .before .before .before .u8-or-zero .ensures)) (c .before .before .before .before .before .entry-text .ensures) (c .before .before .before .before .text .ensures))) (c .name-entry-from .ensures)))
 
 returns-4 : tie.Need-returns-4
-returns-4 c = lent-fits _ _ _ (c .before .before .before .before .before .before .before .before .before .before .before .if1 .left) (name-some (c .before .before .before .before .before .before .before .before .before .before .before .before .before .args .s .now) (c .before .before .before .before .before .before .before .before .before .before .before .before .before .args .c) _ _ (c .before .before .before .before .before .before .before .before .before .if2 .left) (tells toldPlace (c .before .before .before .before .before .before .enum-told .given .1) (c .before .before .before .before .before .before .before .before .fixed-at .ensures)) (map-refused _ _ _ (tells toldPlace (c .before .n .given .1) (name-text (c .before .before .before .before .before .before .before .before .before .before .before .before .before .args .s .now) (c .before .before .before .before .before .before .before .before .before .before .before .before .before .args .c) _ _ _ (c .before .before .before .before .before .before .before .before .before .before .before .if1 .left) (read-zero 1 (c .before .before .before .before .before .before .before .before .before .before .before .before .before .args .s .now) ((c .before .before .before .before .before .before .before .before .before .before .before .before .before .args .c) .pos + 8) _ (let h = fixed (c .before .before .before .before .before .before .before .before .before .before .before .before .before .args .s .now) ((c .before .before .before .before .before .before .before .before .before .before .before .before .before .args .c) .pos) ((c .before .before .before .before .before .before .before .before .before .before .before .before .before .args .c) .end) 12 _ (tells toldPlace (c .before .before .before .before .before .before .enum-told .given .1) (c .before .before .before .before .before .before .before .before .fixed-at .ensures)) in omega arith) (c .before .before .before .before .before .u8-or-zero .ensures)) (c .before .before .before .before .entry-text .ensures) (c .before .before .before .text .ensures)))))
+returns-4 c = lent-fits _ _ _ (c .before .before .before .before .before .before .before .before .before .before .before .if1 .left) (name-some (c .before .before .before .before .before .before .before .before .before .before .before .before .before .args .s .now) (overNames .stands (c .before .before .before .before .before .before .before .before .before .before .before .before .before .args .c)) _ _ (c .before .before .before .before .before .before .before .before .before .if2 .left) (tells toldPlace (c .before .before .before .before .before .before .enum-told .given .1) (c .before .before .before .before .before .before .before .before .fixed-at .ensures)) (map-refused _ _ _ (tells toldPlace (c .before .n .given .1) (name-text (c .before .before .before .before .before .before .before .before .before .before .before .before .before .args .s .now) (overNames .stands (c .before .before .before .before .before .before .before .before .before .before .before .before .before .args .c)) _ _ _ (c .before .before .before .before .before .before .before .before .before .before .before .if1 .left) (read-zero 1 (c .before .before .before .before .before .before .before .before .before .before .before .before .before .args .s .now) ((c .before .before .before .before .before .before .before .before .before .before .before .before .before .args .c) .pos + 8) _ (let h = fixed (c .before .before .before .before .before .before .before .before .before .before .before .before .before .args .s .now) ((c .before .before .before .before .before .before .before .before .before .before .before .before .before .args .c) .pos) ((c .before .before .before .before .before .before .before .before .before .before .before .before .before .args .c) .end) 12 _ (tells toldPlace (c .before .before .before .before .before .before .enum-told .given .1) (c .before .before .before .before .before .before .before .before .fixed-at .ensures)) in omega arith) (c .before .before .before .before .before .u8-or-zero .ensures)) (c .before .before .before .before .entry-text .ensures) (c .before .before .before .text .ensures)))))
 
 returns-5 : tie.Need-returns-5
-returns-5 c = lent-fits _ _ _ (c .before .before .before .before .before .before .if1 .left) (name-none (c .before .before .before .before .before .before .before .before .args .s .now) (c .before .before .before .before .before .before .before .before .args .c) _ (c .before .before .before .before .before .before .if1 .left) (c .before .before .before .before .if2 .left) (tells toldPlace (c .before .n2 .given .1) (c .before .before .before .fixed-at .ensures)))
+returns-5 c = lent-fits _ _ _ (c .before .before .before .before .before .before .if1 .left) (name-none (c .before .before .before .before .before .before .before .before .args .s .now) (overNames .stands (c .before .before .before .before .before .before .before .before .args .c)) _ (c .before .before .before .before .before .before .if1 .left) (c .before .before .before .before .if2 .left) (tells toldPlace (c .before .n2 .given .1) (c .before .before .before .fixed-at .ensures)))
 
 pub name-entry-spec : {M : Type 1} → statement M
 name-entry-spec =

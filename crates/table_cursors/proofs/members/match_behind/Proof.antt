@@ -21,7 +21,7 @@ enum-known-found : tie.Need-enum-known-found Inv-loop μ-loop
 enum-known-found c = search needs
 
 returns : tie.Need-returns Inv-loop μ-loop
-returns c = behind-here (c .before .before .before .before .before .before .before .args .s .now) (c .before .before .before .before .before .before .before .args .own .0) _ _ (toldNameStep (c .before .before .before .before .before .loop .found)) (sym (ap toldNameStep (c .before .before .before .found .given .1))) ∙ ap (λ (n : ℕ). behind n (c .before .before .before .before .before .before .before .args .s .now) (c .before .before .before .before .before .before .before .args .own .0) (toldNameStep (c .before .before .before .before .before .loop .found))) (sym (c .before .if1 .taken)) ∙ c .before .before .before .before .before .loop .inv
+returns c = behind-here (c .before .before .before .before .before .before .before .args .s .now) (c .before .before .before .before .before .before .before .args .own .0) _ _ _ (toldNameStep (c .before .before .before .before .before .loop .found)) (sym (ap toldNameStep (c .before .before .before .found .given .1))) ∙ ap (λ (n : ℕ). behind n (c .before .before .before .before .before .before .before .args .s .now) (c .before .before .before .before .before .before .before .args .own .0) (toldNameStep (c .before .before .before .before .before .loop .found))) (sym (c .before .if1 .taken)) ∙ c .before .before .before .before .before .loop .inv
 
 next-match-requires : tie.Need-next-match-requires Inv-loop μ-loop
 next-match-requires c κs = search needs
@@ -33,7 +33,7 @@ loop-less : tie.Need-loop-less Inv-loop μ-loop
 loop-less c = search needs
 
 loop-again : tie.Need-loop-again Inv-loop μ-loop
-loop-again c = ap (behind ((c .before .before .before .before .before .loop .left) - 1) (c .before .before .before .before .before .before .before .args .s .now) (c .before .before .before .before .before .before .before .args .own .0)) (c .next-match .ensures) ∙ behind-next (c .before .before .before .before .before .loop .left) (c .before .before .before .before .before .before .before .args .s .now) (c .before .before .before .before .before .before .before .args .own .0) _ _ (toldNameStep (c .before .before .before .before .before .loop .found)) (omega arith) (sym (ap toldNameStep (c .before .before .before .found .given .1))) ∙ c .before .before .before .before .before .loop .inv
+loop-again c = ap (behind ((c .before .before .before .before .before .loop .left) - 1) (c .before .before .before .before .before .before .before .args .s .now) (c .before .before .before .before .before .before .before .args .own .0)) (c .next-match .ensures) ∙ behind-next (c .before .before .before .before .before .loop .left) (c .before .before .before .before .before .before .before .args .s .now) (c .before .before .before .before .before .before .before .args .own .0) _ _ _ (toldNameStep (c .before .before .before .before .before .loop .found)) (omega arith) (sym (ap toldNameStep (c .before .before .before .found .given .1))) ∙ c .before .before .before .before .before .loop .inv
 
 enum-known-found-2 : tie.Need-enum-known-found-2 Inv-loop μ-loop
 enum-known-found-2 c = search needs

@@ -42,7 +42,7 @@ enum-known-n-2 : tie.Need-enum-known-n-2
 enum-known-n-2 c = search needs
 
 returns-2 : tie.Need-returns-2
-returns-2 c = let s = c .before .before .before .before .before .before .before .before .before .before .before .before .before .before .before .before .before .args .s .now in let own = c .before .before .before .before .before .before .before .before .before .before .own .given .0 .0 .0 in lent-fits _ _ _ (c .before .before .before .before .before .before .before .before .before .before .before .before .before .before .before .if1 .left) (bind-value _ _ _ _ (tells toldOffset (c .before .before .before .before .before .before .before .before .before .before .own .given .1) (c .before .before .before .before .before .before .before .before .before .before .before .before .offset-word .ensures)) (behind-first (c .before .before .before .before .before .before .before .before .before .before .before .before .before .before .before .before .before .args .k) s own _ _ _ _ (tells toldNameStep (c .before .before .before .c .given .1) (c .before .before .before .before .before .next-match .ensures ∙ ap (λ (x : NameCursor). matching (length s) s own x) (c .before .before .before .before .before .before .names-in .ensures))) (c .match-behind .ensures ∙ ap (behind (c .before .before .before .before .before .before .before .before .before .before .before .before .before .before .before .before .before .args .k) s own) (c .before .next-match2 .ensures))))
+returns-2 c = let s = c .before .before .before .before .before .before .before .before .before .before .before .before .before .before .before .before .before .args .s .now in let own = c .before .before .before .before .before .before .before .before .before .before .own .given .0 .0 .0 in lent-fits _ _ _ (c .before .before .before .before .before .before .before .before .before .before .before .before .before .before .before .if1 .left) (bind-value _ _ _ _ (tells toldOffset (c .before .before .before .before .before .before .before .before .before .before .own .given .1) (c .before .before .before .before .before .before .before .before .before .before .before .before .offset-word .ensures)) (behind-first (c .before .before .before .before .before .before .before .before .before .before .before .before .before .before .before .before .before .args .k) s own _ _ _ _ _ (tells toldNameStep (c .before .before .before .c .given .1) (c .before .before .before .before .before .next-match .ensures ∙ ap (λ (x : NameCursor). matching (length s) s own x) (c .before .before .before .before .before .before .names-in .ensures))) (c .match-behind .ensures ∙ ap (behind (c .before .before .before .before .before .before .before .before .before .before .before .before .before .before .before .before .before .args .k) s own) (c .before .next-match2 .ensures))))
 
 returns-3 : tie.Need-returns-3
 returns-3 c = let s = c .before .before .before .before .before .before .before .before .before .before .before .before .before .before .before .args .s .now in let own = c .before .before .before .before .before .before .before .before .own .given .0 .0 .0 in lent-fits _ _ _ (c .before .before .before .before .before .before .before .before .before .before .before .before .before .if1 .left) (bind-value _ _ _ _ (tells toldOffset (c .before .before .before .before .before .before .before .before .own .given .1) (c .before .before .before .before .before .before .before .before .before .before .offset-word .ensures)) (behind-over _ s own _ _ _ (tells toldNameStep (c .before .n .given .1) (c .before .before .before .next-match .ensures ∙ ap (λ (x : NameCursor). matching (length s) s own x) (c .before .before .before .before .names-in .ensures)))))

@@ -29,7 +29,7 @@ unsigned32-requires : tie.Need-unsigned32-requires Inv-loop μ-loop
 unsigned32-requires c κs = search needs
 
 returns : tie.Need-returns Inv-loop μ-loop
-returns c = match-here (c .before .before .before .before .before .before .before .before .before .loop .left) (c .before .before .before .before .before .before .before .before .before .before .before .args .s .now) (c .before .before .before .before .before .before .before .before .before .before .before .args .own .0) (c .before .before .before .before .before .before .before .before .before .loop .c) (omega arith) _ _ (tells toldNameStep (c .before .before .before .before .before .entry .given .1) (c .before .before .before .before .before .before .before .step .ensures)) (sym (pattern (c .before .before .before .before .before .entry .given .0 .0 .hreftype) _ (record { sfits = c .before .before .before .struct-told .given .1 .1 .0 .1 }) (c .before .before .unsigned32 .ensures)) ∙ c .if1 .taken) ∙ c .before .before .before .before .before .before .before .before .before .loop .inv
+returns c = match-here (c .before .before .before .before .before .before .before .before .before .loop .left) (c .before .before .before .before .before .before .before .before .before .before .before .args .s .now) (c .before .before .before .before .before .before .before .before .before .before .before .args .own .0) (c .before .before .before .before .before .before .before .before .before .loop .c) (omega arith) _ _ _ (tells toldNameStep (c .before .before .before .before .before .entry .given .1) (c .before .before .before .before .before .before .before .step .ensures)) (sym (pattern (c .before .before .before .before .before .entry .given .0 .0 .hreftype) _ (record { sfits = c .before .before .before .struct-told .given .1 .1 .0 .1 }) (c .before .before .unsigned32 .ensures)) ∙ c .if1 .taken) ∙ c .before .before .before .before .before .before .before .before .before .loop .inv
 
 enum-known-n : tie.Need-enum-known-n Inv-loop μ-loop
 enum-known-n c = search needs
@@ -44,7 +44,7 @@ loop-less : tie.Need-loop-less Inv-loop μ-loop
 loop-less c = search needs
 
 loop-again : tie.Need-loop-again Inv-loop μ-loop
-loop-again c = match-on (c .before .before .before .before .before .before .before .before .before .loop .left) (c .before .before .before .before .before .before .before .before .before .before .before .args .s .now) (c .before .before .before .before .before .before .before .before .before .before .before .args .own .0) (c .before .before .before .before .before .before .before .before .before .loop .c) (omega arith) _ _ (tells toldNameStep (c .before .before .before .before .before .entry .given .1) (c .before .before .before .before .before .before .before .step .ensures)) (λ e. c .if1 .left ((pattern (c .before .before .before .before .before .entry .given .0 .0 .hreftype) _ (record { sfits = c .before .before .before .struct-told .given .1 .1 .0 .1 }) (c .before .before .unsigned32 .ensures)) ∙ e)) ∙ c .before .before .before .before .before .before .before .before .before .loop .inv
+loop-again c = match-on (c .before .before .before .before .before .before .before .before .before .loop .left) (c .before .before .before .before .before .before .before .before .before .before .before .args .s .now) (c .before .before .before .before .before .before .before .before .before .before .before .args .own .0) (c .before .before .before .before .before .before .before .before .before .loop .c) (omega arith) _ _ _ (tells toldNameStep (c .before .before .before .before .before .entry .given .1) (c .before .before .before .before .before .before .before .step .ensures)) (λ e. c .if1 .left ((pattern (c .before .before .before .before .before .entry .given .0 .0 .hreftype) _ (record { sfits = c .before .before .before .struct-told .given .1 .1 .0 .1 }) (c .before .before .unsigned32 .ensures)) ∙ e)) ∙ c .before .before .before .before .before .before .before .before .before .loop .inv
 
 returns-3 : tie.Need-returns-3 Inv-loop μ-loop
 returns-3 c = match-none (c .before .before .before .args .s .now) (c .before .before .before .args .own .0) (c .before .loop .c) ∙ ap (λ n. matching n (c .before .before .before .args .s .now) (c .before .before .before .args .own .0) (c .before .loop .c)) (omega arith) ∙ c .before .loop .inv

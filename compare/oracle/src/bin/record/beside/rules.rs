@@ -83,7 +83,10 @@ impl Beside<'_> {
                 let record = (first as usize, second as usize);
                 vec![place(self.func_name(record, third as usize))]
             }
-            ask => self.cursor(ask, (first as usize, second as usize)),
+            ask => {
+                assert_eq!(third, 0, "no count is set");
+                self.cursor(ask, (first as usize, second as usize))
+            }
         }
     }
 
@@ -376,9 +379,9 @@ impl Beside<'_> {
         matches.nth(k + 1).map(|(_, text)| text)
     }
 
-    /// What a cursor yields, and its end twice.
+    /// What a cursor yields, each record with its number, and its end twice.
     fn cursor(&self, ask: Ask, record: Place) -> Vec<Answer> {
-        let yielded: Vec<Answer> = match ask {
+        let yielded = match ask {
             Ask::Typeinfos => return self.typeinfos(),
             Ask::Names => self.name_entries(),
             Ask::Guids => self.records(5, 24),
@@ -388,24 +391,29 @@ impl Beside<'_> {
             Ask::Walk => return vec![self.walk(record)],
             _ => unreachable!(),
         };
-        [yielded, end()].concat()
+        [numbered(yielded), end()].concat()
     }
 
-    /// Each typeinfo or its refusal behind how many are left, and the end twice.
+    /// Each typeinfo and its index, or its refusal, behind how many are left; and the end twice.
     fn typeinfos(&self) -> Vec<Answer> {
         let count = self.own.count;
-        let each = (0..count).flat_map(|index| [number(count - index), self.typeinfo(index)]);
+        let each = (0..count).flat_map(|index| {
+            let typeinfo = self.typeinfo(index);
+            let yields = typeinfo[0] == 0;
+            let told = [number(count - index), typeinfo];
+            told.into_iter().chain(yields.then(|| of_record(index)))
+        });
         let end = [number(0), vec![NOTHING]];
         each.chain(end.clone()).chain(end).collect()
     }
 
     /// Of each name entry the text's place, its offset in the table, and the fields of its first bytes.
-    fn name_entries(&self) -> Vec<Answer> {
+    fn name_entries(&self) -> Vec<Vec<Answer>> {
         let (start, _) = self.own.table(7);
         let entries = self.names().into_iter();
         entries
-            .flat_map(|(at, text)| {
-                [
+            .map(|(at, text)| {
+                vec![
                     place(Some(text)),
                     number(at - start),
                     bytes(self.run(at, 4)),
@@ -418,21 +426,21 @@ impl Beside<'_> {
     }
 
     /// Records of one size, which end inside the segment and the file.
-    fn records(&self, segment: usize, size: usize) -> Vec<Answer> {
+    fn records(&self, segment: usize, size: usize) -> Vec<Vec<Answer>> {
         let (start, len) = self.own.table(segment);
         let whole = (0..len / size).map(|k| start + k * size);
         whole
             .take_while(|&at| self.run(at, size).is_some())
-            .map(|at| place(Some((at, size))))
+            .map(|at| vec![place(Some((at, size)))])
             .collect()
     }
 
     /// Import files one behind another, each inside the segment and the file.
-    fn imp_files(&self) -> Vec<Answer> {
+    fn imp_files(&self) -> Vec<Vec<Answer>> {
         let mut found = Vec::new();
         let mut offset = 0;
         while let Some((at, size)) = self.imp_file(offset as i32) {
-            found.push(place(Some((at, size))));
+            found.push(vec![place(Some((at, size)))]);
             offset += size;
         }
         found
@@ -453,13 +461,13 @@ impl Beside<'_> {
             return vec![vec![NOTHING]];
         };
         let (start, _) = self.own.table(3);
-        let place_of = |&offset: &usize| place(Some((start + offset, 16)));
+        let place_of = |&offset: &usize| vec![place(Some((start + offset, 16)))];
         match returned {
-            None => [offsets.iter().map(place_of).collect(), end()].concat(),
+            None => [numbered(offsets.iter().map(place_of).collect()), end()].concat(),
             Some(k) => {
                 let round = offsets[k..].iter().cycle();
                 let all = offsets[..k].iter().chain(round);
-                all.take(LONGEST_CHAIN).map(place_of).collect()
+                numbered(all.take(LONGEST_CHAIN).map(place_of).collect())
             }
         }
     }
@@ -515,6 +523,20 @@ fn word(bytes: &[u8]) -> i32 {
 
 fn twice(answer: Answer) -> Vec<Answer> {
     vec![answer.clone(), answer]
+}
+
+/// What is told of each record, and its number.
+fn numbered(records: Vec<Vec<Answer>>) -> Vec<Answer> {
+    let numbered = |(before, mut told): (usize, Vec<Answer>)| {
+        told.push(of_record(before));
+        told
+    };
+    records.into_iter().enumerate().flat_map(numbered).collect()
+}
+
+/// The number of the record that so many come before, and how many are yielded with it.
+fn of_record(before: usize) -> Answer {
+    [number(before), number(before + 1)[1..].to_vec()].concat()
 }
 
 /// The end of a cursor, twice.
