@@ -99,7 +99,7 @@ static bool deep_alias(const library *l, msft_place type, cell *where)
 
 static bool round_chain(const library *l, msft_place type, cell *where)
 {
-    uint8_t out[28];
+    uint8_t out[MSFT_CHAIN_CURSOR_BYTES];
     if (msft_typeinfo_typekind(BYTES(l), MSFT_PLACE(type)) != 5
         || msft_impl_types(BYTES(l), MSFT_PLACE(type), out, sizeof out) < 0)
         return false;

@@ -4,7 +4,7 @@
 #include <stdio.h>
 
 #define LIB lib, lib_len
-static uint8_t lib[16777217], out[56];
+static uint8_t lib[16777217], out[MSFT_YIELD_BYTES];
 static size_t lib_len;
 
 /* A parameter: its name, and its type as pointers and the name of a base type. */

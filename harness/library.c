@@ -182,9 +182,6 @@ text variable_name(const library *l, msft_place type, uint64_t number)
 
 /* ---- cursors ---- */
 
-/* How many bytes a cursor of members or parameters has, and what a step from it writes. */
-enum { CURSOR = 32, YIELD = 56 };
-
 static msft_cursor cursor_from(int64_t reply, const uint8_t *out)
 {
     msft_cursor none = {0, 0, 0, 0};
@@ -193,19 +190,19 @@ static msft_cursor cursor_from(int64_t reply, const uint8_t *out)
 
 msft_cursor functions_of(const library *l, msft_place type)
 {
-    uint8_t out[CURSOR];
+    uint8_t out[MSFT_CURSOR_BYTES];
     return cursor_from(msft_funcs(BYTES(l), MSFT_PLACE(type), out, sizeof out), out);
 }
 
 msft_cursor variables_of(const library *l, msft_place type)
 {
-    uint8_t out[CURSOR];
+    uint8_t out[MSFT_CURSOR_BYTES];
     return cursor_from(msft_vars(BYTES(l), MSFT_PLACE(type), out, sizeof out), out);
 }
 
 msft_cursor parameters_of(const library *l, msft_place function)
 {
-    uint8_t out[CURSOR];
+    uint8_t out[MSFT_CURSOR_BYTES];
     return cursor_from(msft_params(BYTES(l), MSFT_PLACE(function), out, sizeof out), out);
 }
 
@@ -222,18 +219,18 @@ static bool stepped(int64_t reply, const uint8_t *out, msft_cursor *c, record *r
 
 bool next_function(const library *l, msft_cursor *c, record *r)
 {
-    uint8_t out[YIELD];
+    uint8_t out[MSFT_YIELD_BYTES];
     return stepped(msft_func_step(BYTES(l), MSFT_CURSOR(*c), out, sizeof out), out, c, r);
 }
 
 bool next_variable(const library *l, msft_cursor *c, record *r)
 {
-    uint8_t out[YIELD];
+    uint8_t out[MSFT_YIELD_BYTES];
     return stepped(msft_var_step(BYTES(l), MSFT_CURSOR(*c), out, sizeof out), out, c, r);
 }
 
 bool next_parameter(const library *l, msft_cursor *c, record *r)
 {
-    uint8_t out[YIELD];
+    uint8_t out[MSFT_YIELD_BYTES];
     return stepped(msft_param_step(BYTES(l), MSFT_CURSOR(*c), out, sizeof out), out, c, r);
 }

@@ -29,7 +29,7 @@ static void variable(void)
 /* Two parameters, stepped to their end. */
 static void parameters(void)
 {
-    uint8_t params[2 * PARAM_SIZE] = {0}, out[56];
+    uint8_t params[2 * PARAM_SIZE] = {0}, out[MSFT_YIELD_BYTES];
     msft_cursor c = {0, sizeof params, 2, 0};
     int64_t reply;
     while ((reply = msft_param_step(params, sizeof params, MSFT_CURSOR(c), out, sizeof out)) > 0) {
@@ -42,7 +42,7 @@ static void parameters(void)
 /* A chain of one record, which ends or comes round. */
 static void chain(void)
 {
-    uint8_t ref[REF_SIZE] = {0}, out[8];
+    uint8_t ref[REF_SIZE] = {0}, out[MSFT_SIZE_BYTES];
     say("a circle", msft_walk(ref, REF_SIZE, 0, REF_SIZE, 0, 0, out, sizeof out));
     ref[12] = 0xff;
     ref[13] = 0xff;
@@ -59,7 +59,7 @@ static void chain(void)
 /* A name of four bytes behind its intro; its cursor ends with it or a byte before. */
 static void name(void)
 {
-    uint8_t entry[NAME_SIZE] = {0}, out[75];
+    uint8_t entry[NAME_SIZE] = {0}, out[MSFT_NAME_YIELD_BYTES];
     entry[8] = 4;
     say("a name", msft_name_step(entry, NAME_SIZE, 0, NAME_SIZE, 0, 0, out, sizeof out));
     say("past its cursor", msft_name_step(entry, NAME_SIZE, 0, NAME_SIZE - 1, 0, 0, out, sizeof out));

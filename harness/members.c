@@ -226,7 +226,7 @@ static void print_implemented(const library *l, msft_place reference)
 /* The interfaces of a coclass: as many as the walk along their chain took. */
 static void print_chain(const library *l, msft_place type)
 {
-    uint8_t out[52];
+    uint8_t out[MSFT_CHAIN_YIELD_BYTES];
     if (msft_impl_types(BYTES(l), MSFT_PLACE(type), out, sizeof out) < 0)
         return;
     msft_chain_cursor at = msft_unpack_chain_cursor(out);

@@ -1,5 +1,5 @@
-/* What number each cursor gives its records. Steps each over bytes made here, to its end, and prints the
-   numbers and the places. */
+/* What number each cursor gives its records. Steps each over bytes made here, to its end, or three
+   times along a chain that has none, and prints the numbers and the places. */
 #include <inttypes.h>
 #include <stdio.h>
 
@@ -28,7 +28,7 @@ typedef int64_t member_step(const uint8_t *lib, size_t lib_len, size_t pos, size
    its first word. */
 static void members(const char *what, member_step *step, uint8_t size, uint64_t yielded)
 {
-    uint8_t bytes[2 * MOST_SIZE] = {0}, out[56];
+    uint8_t bytes[2 * MOST_SIZE] = {0}, out[MSFT_YIELD_BYTES];
     msft_cursor at = {0, 2 * (size_t)size, 3, yielded};
     bytes[0] = size;
     bytes[size] = size;
@@ -48,7 +48,7 @@ typedef int64_t table_step(const uint8_t *lib, size_t lib_len, size_t pos, size_
 /* Two entries, and a byte that is none. */
 static void table(const char *what, table_step *step, size_t size)
 {
-    uint8_t bytes[2 * MOST_SIZE + 1] = {0}, out[48];
+    uint8_t bytes[2 * MOST_SIZE + 1] = {0}, out[MSFT_TABLE_YIELD_BYTES];
     msft_table_cursor at = {0, 2 * size + 1, 0};
     while (0 < step(bytes, sizeof bytes, MSFT_TABLE_CURSOR(at), out, sizeof out)) {
         msft_table_yield y = msft_unpack_table_yield(out);
@@ -58,10 +58,10 @@ static void table(const char *what, table_step *step, size_t size)
     printf("%s cursor: %" PRIu64 " yielded\n", what, at.yielded);
 }
 
-/* Two names of four letters, the second behind the first; the table begins at the first. */
+/* Two names of four bytes, the second behind the first; the table begins at the first. */
 static void names(void)
 {
-    uint8_t bytes[2 * (NAME_SIZE + 4)] = {0}, out[75];
+    uint8_t bytes[2 * (NAME_SIZE + 4)] = {0}, out[MSFT_NAME_YIELD_BYTES];
     msft_name_cursor at = {0, sizeof bytes, 0, 0};
     bytes[8] = 4;
     bytes[NAME_SIZE + 4 + 8] = 4;
@@ -79,7 +79,7 @@ static void names(void)
 static void typeinfos(void)
 {
     enum { COUNT = 3, OFFSETS = 84, DIRECTORY = OFFSETS + 4 * COUNT, TYPES = DIRECTORY + 240, SIZE = 100 };
-    uint8_t bytes[TYPES + 2 * SIZE] = {'M', 'S', 'F', 'T'}, out[32];
+    uint8_t bytes[TYPES + 2 * SIZE] = {'M', 'S', 'F', 'T'}, out[MSFT_TYPEINFO_YIELD_BYTES];
     set_word(bytes + 32, COUNT);
     set_word(bytes + OFFSETS + 4, UINT32_MAX);
     set_word(bytes + OFFSETS + 8, SIZE);
@@ -103,7 +103,7 @@ static void typeinfos(void)
 /* A record that is followed by itself has no end: three steps. */
 static void chain(uint64_t yielded)
 {
-    uint8_t bytes[REF_SIZE] = {0}, out[52];
+    uint8_t bytes[REF_SIZE] = {0}, out[MSFT_CHAIN_YIELD_BYTES];
     msft_chain_cursor at = {0, REF_SIZE, 0, yielded};
     for (int i = 0; i < 3; i++) {
         if (msft_impl_type_step(bytes, sizeof bytes, MSFT_CHAIN_CURSOR(at), out, sizeof out) < 0)
@@ -118,7 +118,7 @@ static void chain(uint64_t yielded)
 /* The walk is of the chain from the cursor on, whatever the cursor has yielded. */
 static void walk(void)
 {
-    uint8_t bytes[REF_SIZE] = {0}, out[8];
+    uint8_t bytes[REF_SIZE] = {0}, out[MSFT_SIZE_BYTES];
     set_word(bytes + 12, UINT32_MAX);
     msft_chain_cursor at = {0, REF_SIZE, 0, UINT64_MAX};
     if (0 < msft_walk(bytes, sizeof bytes, MSFT_CHAIN_CURSOR(at), out, sizeof out))

@@ -9,8 +9,8 @@
 typedef int64_t reading(const uint8_t *lib, size_t lib_len, int32_t offset, uint8_t *out,
                         size_t out_len);
 
-/* The most bytes that one of these readings, or a step along a chain, writes. */
-enum { MOST_OUT = 52 };
+/* The most bytes that one of these readings writes: those of a reference. */
+enum { MOST_OUT = 34 };
 
 /* A hostile library can lead out of its tables millions of times: so many are told. */
 enum { MOST_TOLD = 100 };
@@ -72,8 +72,8 @@ static void look_at_constant(search *s, const char *what, int64_t field)
         look(s, "", what, field, msft_const_value, "not inside the table of constants and the file");
 }
 
-/* Goes on to a type, a member, a parameter or an interface, and looks at its name, which a refusal says
-   that it has not. Replies where the words for what it is part of end; `leave` cuts there. */
+/* Goes on to a type, a member, a parameter or an interface, and looks at its name; a refusal for `name`
+   says that it has none. Replies where the words for what it is part of end; `leave` cuts there. */
 static size_t enter(search *s, const char *what, uint64_t number, int64_t name)
 {
     size_t before = s->where.len;
@@ -209,7 +209,7 @@ static size_t enter_interface(search *s, uint64_t number)
 static void look_at_chain(search *s, msft_place type)
 {
     const library *l = s->l;
-    uint8_t out[MOST_OUT];
+    uint8_t out[MSFT_CHAIN_YIELD_BYTES];
     size_t before;
     if (msft_impl_types(BYTES(l), MSFT_PLACE(type), out, sizeof out) < 0)
         return;

@@ -835,6 +835,20 @@ static inline msft_place msft_unpack_place(const uint8_t *out)
 /* The cursors, and of each its yield: what a step from it wrote, the record, its number and the next
    cursor in one piece. */
 
+/* How many bytes a call writes for each; MSFT_SIZE_BYTES, for an index or the count of a walk. */
+enum msft_bytes {
+    MSFT_SIZE_BYTES = 8,
+    MSFT_CURSOR_BYTES = 32,
+    MSFT_YIELD_BYTES = 56,
+    MSFT_TABLE_CURSOR_BYTES = 24,
+    MSFT_TABLE_YIELD_BYTES = 48,
+    MSFT_NAME_CURSOR_BYTES = 32,
+    MSFT_NAME_YIELD_BYTES = 75,
+    MSFT_TYPEINFO_YIELD_BYTES = 32,
+    MSFT_CHAIN_CURSOR_BYTES = 28,
+    MSFT_CHAIN_YIELD_BYTES = 52
+};
+
 /* Functions, variables and parameters. */
 typedef struct msft_cursor {
     size_t pos;

@@ -32,12 +32,13 @@ pub number-most : (k : ℕ) → largest ≤ k → numberOf k ≡ largest
 unfolding numberOf
 number-most k h = rw (le-ltb k largest h)
 
-pub number-bound : (k : ℕ) → numberOf k ≤ largest
-number-bound k = by (ltb k largest) refl
+-- a number that has not stopped is the count
+pub number-back : (k : ℕ) → numberOf k < largest → numberOf k ≡ k
+number-back k h = by (ltb k largest) refl
   where
-    by : (b : Bool) → ltb k largest ≡ b → numberOf k ≤ largest
-    by true e = let f = number-few k (omega (arith, ltb-true k largest e)) in omega (arith, ltb-true k largest e)
-    by false e = let f = number-most k (ltb-false k largest e) in omega arith
+    by : (b : Bool) → ltb k largest ≡ b → numberOf k ≡ k
+    by true e = number-few k (omega (arith, ltb-true k largest e))
+    by false e = absurd (let f = number-most k (ltb-false k largest e) in omega (arith, h, f))
 
 -- one more than a number is the number behind it
 pub number-next : (k : ℕ) → numberOf (numberOf k + 1) ≡ numberOf (k + 1)
@@ -150,6 +151,14 @@ counts k next =
       same = λ {s} {c} {d} {m} e. step-ends k (next s) c d m e .same;
     }
 
+-- the cursor has yielded j, and the record that it hands out next has number j
+pub record Numbered {S R C : Type 0} (count : C → ℕ) (step : S → C → Step R C) (j : ℕ) (d : C) : Type 0 where
+  pub yields : count d ≡ j
+  pub number : {s : S} {e : C} {r : R} {n : ℕ} → yielded r n e ≡ step s d → n ≡ j
+
+pub numbered : {S R C : Type 0} {count : C → ℕ} {step : S → C → Step R C} → Counts count step → {j : ℕ} {d : C} → count d ≡ j → Numbered count step j d
+numbered counting e = record { yields = e; number = λ h. counting .number h ∙ e }
+
 -- something was left, and one less is
 pub record Lessens {C : Type 0} (left : C → ℕ) (c d : C) : Type 0 where
   pub some : 0 < left c
@@ -188,6 +197,10 @@ module _ {S R C : Type 0} {count : C → ℕ} {step : S → C → Step R C} (cou
       let m = counting .more e ∙ number-few (count c + 1) (omega (arith, h, l .some)) in
       record { lessens = l; number = counting .number e; more = m; sum = omega (arith, m, l .some, l .fewer) }
 
+  -- THE RECORD BEHIND j RECORDS HAS NUMBER j from where the count began, as far as numbers go
+  pub number-after : {c d : C} {j : ℕ} → count c ≤ largest → After step c j d → Numbered count step (numberOf (count c + j)) d
+  number-after h a = numbered counting (count-after h a)
+
   -- YIELDED AND REMAINING are together what remained at first
   pub sum-after : {left : C → ℕ} → Takes left step → {c d : C} {j : ℕ} → count c ≡ 0 → left c ≤ largest → After step c j d → count d + left d ≡ left c
   sum-after taking z h start = omega (arith, z)
@@ -196,7 +209,14 @@ module _ {S R C : Type 0} {count : C → ℕ} {step : S → C → Step R C} (cou
       turn taking (omega (arith, ih, h)) e .sum ∙ ih
   sum-after taking z h (still s a e) = omega (arith, sum-after taking z h a, counting .same e, taking .keeps e)
 
-  -- THE COUNT IS HOW MANY RECORDS were yielded, where each step goes forward
+  -- so that the record behind j records has number j, where no more remained at first than there are numbers
+  pub number-by-sum : {left : C → ℕ} → Takes left step → {c d : C} {j : ℕ} → count c ≡ 0 → left c < largest → After step c j d → Numbered count step j d
+  number-by-sum taking {c} {d} {j} z h a =
+      let n : count d ≡ numberOf j = count-after (omega (arith, z)) a ∙ ap numberOf (omega (arith, z)) in
+      let few : numberOf j < largest = omega (arith, n, sum-after taking z (omega (arith, h)) a, h) in
+      numbered counting (n ∙ number-back j few)
+
+  -- and so it has where each step goes forward, inside the most bytes that are read
   forward-after : {pos : C → ℕ} → Forward pos step → {c d : C} {j : ℕ} → count c ≡ 0 → After step c j d → (count d ≡ j) × (j ≤ pos d)
   forward-after going z start = (z, omega arith)
   forward-after going z (more {d = d} s a e) =
@@ -207,8 +227,8 @@ module _ {S R C : Type 0} {count : C → ℕ} {step : S → C → Step R C} (cou
       let ih = forward-after going z a in
       (counting .same e ∙ ih .0, omega (arith, ih .1, going .keeps e))
 
-  pub count-is : {pos : C → ℕ} → Forward pos step → {c d : C} {j : ℕ} → count c ≡ 0 → After step c j d → count d ≡ j
-  count-is going z a = forward-after going z a .0
+  pub number-by-place : {pos : C → ℕ} → Forward pos step → {c d : C} {j : ℕ} → count c ≡ 0 → After step c j d → Numbered count step j d
+  number-by-place going z a = numbered counting (forward-after going z a .0)
 
 -- ---- functions, variables and parameters
 
@@ -270,15 +290,28 @@ func-turn s = turn (counts overFuncs (blockNext (sizeOf funcRecord))) func-takes
 pub var-turn : (s : List ℕ) {c d : VarCursor} {p : Place} {n : ℕ} → c .yielded + c .remaining ≤ largest → yielded p n d ≡ varStep s c → Turn (λ x. x .remaining) (λ x. x .yielded) c d n
 var-turn s = turn (counts overVars (blockNext (sizeOf varRecord))) var-takes {s = s}
 
--- WHAT A CURSOR HAS YIELDED AND WHAT REMAINS are together what remained when it had yielded none, whatever its steps were over
-pub func-sum : {c d : FuncCursor} {j : ℕ} → c .yielded ≡ 0 → c .remaining ≤ largest → After funcStep c j d → d .yielded + d .remaining ≡ c .remaining
-func-sum = sum-after (counts overFuncs (blockNext (sizeOf funcRecord))) func-takes
+-- WHAT A CURSOR HAS YIELDED AND WHAT REMAINS are together what remained when it had yielded none, whatever its steps were over; and the record
+-- behind j records has number j
+module _ {c d : FuncCursor} {j : ℕ} (none : c .yielded ≡ 0) (few : c .remaining < largest) (a : After funcStep c j d) where
+  pub func-sum : d .yielded + d .remaining ≡ c .remaining
+  func-sum = sum-after (counts overFuncs (blockNext (sizeOf funcRecord))) func-takes none (omega (arith, few)) a
 
-pub var-sum : {c d : VarCursor} {j : ℕ} → c .yielded ≡ 0 → c .remaining ≤ largest → After varStep c j d → d .yielded + d .remaining ≡ c .remaining
-var-sum = sum-after (counts overVars (blockNext (sizeOf varRecord))) var-takes
+  pub func-number : Numbered (λ (x : FuncCursor). x .yielded) funcStep j d
+  func-number = number-by-sum (counts overFuncs (blockNext (sizeOf funcRecord))) func-takes none few a
 
-pub param-sum : {c d : ParamCursor} {j : ℕ} → c .yielded ≡ 0 → c .remaining ≤ largest → After paramStep c j d → d .yielded + d .remaining ≡ c .remaining
-param-sum = sum-after (counts overParams paramNext) param-takes
+module _ {c d : VarCursor} {j : ℕ} (none : c .yielded ≡ 0) (few : c .remaining < largest) (a : After varStep c j d) where
+  pub var-sum : d .yielded + d .remaining ≡ c .remaining
+  var-sum = sum-after (counts overVars (blockNext (sizeOf varRecord))) var-takes none (omega (arith, few)) a
+
+  pub var-number : Numbered (λ (x : VarCursor). x .yielded) varStep j d
+  var-number = number-by-sum (counts overVars (blockNext (sizeOf varRecord))) var-takes none few a
+
+module _ {c d : ParamCursor} {j : ℕ} (none : c .yielded ≡ 0) (few : c .remaining < largest) (a : After paramStep c j d) where
+  pub param-sum : d .yielded + d .remaining ≡ c .remaining
+  param-sum = sum-after (counts overParams paramNext) param-takes none (omega (arith, few)) a
+
+  pub param-number : Numbered (λ (x : ParamCursor). x .yielded) paramStep j d
+  param-number = number-by-sum (counts overParams paramNext) param-takes none few a
 
 module _ (s : List ℕ) where
   -- the steps without their numbers

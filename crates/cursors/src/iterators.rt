@@ -219,7 +219,7 @@ impl ParamCursor {
 }
 
 // How many records a cursor has yielded, once it has yielded one more than `yielded`: it stops at the largest number. It serves
-// every cursor.
+// every cursor but the one over typeinfos, whose index is its number.
 pub fn number_behind(yielded: u64) -> u64
     ensures { λ r. ⌜ r ≡ numberOf (yielded + 1) ⌝ }
 {

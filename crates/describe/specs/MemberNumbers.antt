@@ -19,7 +19,8 @@ use Rattle.cursors.specs.declared.iterators.FuncCursor.{FuncCursor}
 use Rattle.cursors.specs.declared.iterators.VarCursor.{VarCursor}
 use Rattle.cursors.specs.declared.iterators.ParamCursor.{ParamCursor}
 use Rattle.cursors.specs.Cursors.{funcStep, blockWith, funcCursor, funcsOf, varStep, skip, varsFrom, varCursor, varsOf, paramStep, paramCursor, paramsOf}
-use Rattle.cursors.specs.NumberLaws.{After, func-sum, var-sum, param-sum}
+use Rattle.cursors.specs.Numbers.{largest}
+use Rattle.cursors.specs.NumberLaws.{After, Numbered, func-sum, func-number, var-sum, var-number, param-sum, param-number}
 use Rattle.describe.specs.Answers.{IfValue, anything, answers-value, answers-bind, answers-map}
 use Rattle.describe.specs.FitMembers.{funcs-short, vars-short, params-short}
 
@@ -60,20 +61,36 @@ module _ (s : List ℕ) where
       answers-bind (anything (recordPlace (sizeOf funcRecord) s (f .at) (f .len))) (λ r _.
       answers-map (paramCursor r) (anything (argumentCount s (f .at) (f .len))) (λ n _. param-none r n))
 
-  -- ---- YIELDED PLUS REMAINING equals what the cursor began with, when it came from the library and was only stepped
+  -- ---- YIELDED PLUS REMAINING equals what the cursor began with, when it came from the library and was only stepped; and the record behind
+  -- j records has number j
 
   module _ (ti : TypeInfoEntry) {j : ℕ} where
-    pub funcs-number : {c d : FuncCursor} → value c ≡ funcsOf s ti → After funcStep c j d → d .yielded + d .remaining ≡ c .remaining
-    funcs-number {c} e =
-        let few : c .remaining < 256 ^ 2 = answers-value (funcs-short s ti) (sym e) in
-        func-sum (answers-value (funcs-begun ti) (sym e)) (omega (arith, few))
+    module _ {c d : FuncCursor} (e : value c ≡ funcsOf s ti) (a : After funcStep c j d) where
+      few-funcs : c .remaining < largest
+      few-funcs = let few : c .remaining < 256 ^ 2 = answers-value (funcs-short s ti) (sym e) in omega (arith, few)
 
-    pub vars-number : {c d : VarCursor} → value c ≡ varsOf s ti → After varStep c j d → d .yielded + d .remaining ≡ c .remaining
-    vars-number {c} e =
-        let few : c .remaining < 256 ^ 2 = answers-value (vars-short s ti) (sym e) in
-        var-sum (answers-value (vars-begun ti) (sym e)) (omega (arith, few))
+      pub funcs-sum : d .yielded + d .remaining ≡ c .remaining
+      funcs-sum = func-sum (answers-value (funcs-begun ti) (sym e)) few-funcs a
 
-  pub params-number : (f : FuncRecord) {j : ℕ} {c d : ParamCursor} → value c ≡ paramsOf s f → After paramStep c j d → d .yielded + d .remaining ≡ c .remaining
-  params-number f {j} {c} e =
-      let few : c .remaining < 256 ^ 2 = answers-value (params-short s f) (sym e) in
-      param-sum (answers-value (params-begun f) (sym e)) (omega (arith, few))
+      pub funcs-number : Numbered (λ (x : FuncCursor). x .yielded) funcStep j d
+      funcs-number = func-number (answers-value (funcs-begun ti) (sym e)) few-funcs a
+
+    module _ {c d : VarCursor} (e : value c ≡ varsOf s ti) (a : After varStep c j d) where
+      few-vars : c .remaining < largest
+      few-vars = let few : c .remaining < 256 ^ 2 = answers-value (vars-short s ti) (sym e) in omega (arith, few)
+
+      pub vars-sum : d .yielded + d .remaining ≡ c .remaining
+      vars-sum = var-sum (answers-value (vars-begun ti) (sym e)) few-vars a
+
+      pub vars-number : Numbered (λ (x : VarCursor). x .yielded) varStep j d
+      vars-number = var-number (answers-value (vars-begun ti) (sym e)) few-vars a
+
+  module _ (f : FuncRecord) {j : ℕ} {c d : ParamCursor} (e : value c ≡ paramsOf s f) (a : After paramStep c j d) where
+    few-params : c .remaining < largest
+    few-params = let few : c .remaining < 256 ^ 2 = answers-value (params-short s f) (sym e) in omega (arith, few)
+
+    pub params-sum : d .yielded + d .remaining ≡ c .remaining
+    params-sum = param-sum (answers-value (params-begun f) (sym e)) few-params a
+
+    pub params-number : Numbered (λ (x : ParamCursor). x .yielded) paramStep j d
+    params-number = param-number (answers-value (params-begun f) (sym e)) few-params a

@@ -95,14 +95,14 @@ module _ (s : List ℕ) where
   func-yielded c d p k e =
       record {
         lessens = func-takes .takes {s = s} e;
-        holds = block-held 24 (overFuncs .stands c) (overFuncs .stands d) p (step-yields overFuncs (blockNext 24 s) c d p k e .found);
+        holds = block-held (sizeOf funcRecord) (overFuncs .stands c) (overFuncs .stands d) p (step-yields overFuncs (blockNext (sizeOf funcRecord) s) c d p k e .found);
       }
 
   pub var-yielded : (c d : VarCursor) (p : Place) (k : ℕ) → yielded p k d ≡ varStep s c → Yielded s (sizeOf varRecord) (λ x. x .remaining) c d p
   var-yielded c d p k e =
       record {
         lessens = var-takes .takes {s = s} e;
-        holds = block-held 20 (overVars .stands c) (overVars .stands d) p (step-yields overVars (blockNext 20 s) c d p k e .found);
+        holds = block-held (sizeOf varRecord) (overVars .stands c) (overVars .stands d) p (step-yields overVars (blockNext (sizeOf varRecord) s) c d p k e .found);
       }
 
   pub param-yielded : (c d : ParamCursor) (p : Place) (k : ℕ) → yielded p k d ≡ paramStep s c → Yielded s (sizeOf parameterInfo) (λ x. x .remaining) c d p

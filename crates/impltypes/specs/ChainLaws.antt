@@ -23,8 +23,9 @@ use Rattle.typelib.specs.Tables.{lent, negative, segmentOf, inTable, placeIn, t
 use Rattle.typelib.specs.TableLaws.{lent-fits, in-table, found-in}
 use Rattle.typelib.specs.Tabulate.{tabulate, length-tabulate, getD-tabulate}
 use Rattle.cursors.specs.Numbers.{largest, numberOf, item, stop, yielded, ended}
-use Rattle.cursors.specs.NumberLaws.{number-most, number-next, without, as-before, by-stops, step-found}
-use Rattle.cursors.specs.NumberLaws.{again as ends-again, step-none as none}
+use Rattle.cursors.specs.NumberLaws.{number-most, number-next, without, as-before, by-stops, step-found, After, counts, Numbered, number-after}
+use Rattle.cursors.specs.NumberLaws.{step-none}
+use Rattle.cursors.specs.NumberLaws.{again as ends-again}
 use Rattle.impltypes.specs.Chain.{ChainAt, overImplTypes, referenceTable, implTypesOf, referenceAt, onext, implTypeNextFrom, implTypeNext, implTypeStep, isRefused}
 use Rattle.impltypes.specs.Chain.{offsetAt, endsAt, returnsAt, taken, walkFrom, placeAt, recordsFrom, standsAt, Passes, Length, Circle, walkOf, cursorAt}
 
@@ -78,12 +79,12 @@ module _ (s : List ℕ) where
   next-stays d = by-stops d _ _ (lent s (referenceAt s (d .table) (d .next)))
 
   module _ (c : ImplTypeCursor) where
-    pub step-none : (n : ℕ) → refused n ≡ lent s (referenceAt s (c .table) (c .next)) → ended n c ≡ implTypeStep s c
-    step-none n e = none overImplTypes (implTypeNext s) c n (next-is (overImplTypes .stands c) (refused n) e)
+    pub chain-none : (n : ℕ) → refused n ≡ lent s (referenceAt s (c .table) (c .next)) → ended n c ≡ implTypeStep s c
+    chain-none n e = step-none overImplTypes (implTypeNext s) c n (next-is (overImplTypes .stands c) (refused n) e)
 
-    pub step-record : (p : Place) (next number : ℕ) → length s ≤ limit → value p ≡ referenceAt s (c .table) (c .next) → next ≡ onext s (p .at)
+    pub chain-record : (p : Place) (next number : ℕ) → length s ≤ limit → value p ≡ referenceAt s (c .table) (c .next) → next ≡ onext s (p .at)
         → number ≡ numberOf (c .yielded + 1) → yielded p (c .yielded) (record { table = c .table; next = next; yielded = number }) ≡ implTypeStep s c
-    step-record p next number h e q =
+    chain-record p next number h e q =
         step-found overImplTypes (implTypeNext s) c p (record { table = c .table; next = next }) number
         (ap (λ (x : ℕ). item p (record { table = c .table; next = x })) q
         ∙ next-is (overImplTypes .stands c) (value p) (lent-fits s _ (value p) h e))
@@ -360,17 +361,17 @@ module _ (s : List ℕ) (c : ImplTypeCursor) where
   abbrev from : ChainAt
   from = overImplTypes .stands c
 
+  -- THE RECORD BEHIND j RECORDS HAS NUMBER j from the cursor's count on, as far as numbers go, whatever bytes each step is taken over
+  pub implTypes-number : {d : ImplTypeCursor} {j : ℕ} → c .yielded ≤ largest → After implTypeStep c j d
+      → Numbered (λ (x : ImplTypeCursor). x .yielded) implTypeStep (numberOf (c .yielded + j)) d
+  implTypes-number = number-after (counts overImplTypes implTypeNext)
+
   -- THE NUMBER OF THE k-TH RECORD from the cursor on is the cursor's count and k, as far as numbers go
   pub step-along : (k : ℕ) → length s ≤ limit → endsAt s from k ≡ false
       → yielded (placeAt s from k) (numberOf (c .yielded + k)) (cursorAt s c (suc k)) ≡ implTypeStep s (cursorAt s c k)
   step-along k h e =
       step-found overImplTypes (implTypeNext s) (cursorAt s c k) (placeAt s from k) (standsAt s from (suc k)) (numberOf (c .yielded + suc k)) (next-along s from k h e)
       (ap numberOf (omega arith) ∙ sym (number-next (c .yielded + k)))
-
-  pub step-ends : (k : ℕ) → length s ≤ limit → endsAt s from k ≡ true → ended 9 (cursorAt s c k) ≡ implTypeStep s (cursorAt s c k)
-  unfolding endsAt
-  step-ends k h e =
-      step-none s (cursorAt s c k) 9 (lent-fits s _ (refused 9) h (place-nine s (c .table) (offsetAt s from k) (sizeOf refRecord) e))
 
   -- ON A CHAIN THAT COMES ROUND every step yields, for as long as it is stepped, and the number stays at the largest once it is there
   pub step-round : Circle s from → (k : ℕ) → length s ≤ limit → largest ≤ c .yielded + k

@@ -31,7 +31,7 @@ pub(crate) fn replay(
     if reading == WALK {
         return walk(lent, lib, recorded, item, before);
     }
-    match starts::start(lent, lib, reading, item) {
+    match starts::begin(lent, lib, reading, item) {
         Start::At(made) => {
             let mut from = made;
             from.count = count_below(made.count, item.third);

@@ -24,7 +24,7 @@ pub enum Start {
 
 // A question's first numbers are the place and the length of the record that the cursor is made from, if it is made
 // from one.
-pub(crate) fn start(lent: &[u8], lib: TypeLib, reading: u8, item: Item) -> Start {
+pub(crate) fn begin(lent: &[u8], lib: TypeLib, reading: u8, item: Item) -> Start {
     let at = item.first as usize;
     let len = item.second as usize;
     let record = TypeInfoEntry { at, len };

@@ -4,20 +4,22 @@ use mathlib.Core.Path.{_≡_, refl, sym, _∙_, ap}
 use mathlib.Core.List.{List}
 use Prim.Native.Nat.{ℕ, zero, suc, _+_, _≤_, _<_}
 use native.Mathlib.Omega.{arith}
+use lib.Dec.{leb, ltb}
 use lib.ListN.{length}
+use Rattle.util.specs.Read.{cond-elim}
 use Rattle.records.specs.declared.answer.Place.{Place}
 use Rattle.records.specs.declared.name.NameEntry.{NameEntry}
-use Rattle.records.specs.Answer.{Answer, value, refused}
+use Rattle.records.specs.Answer.{Answer, value, refused, bind}
 use Rattle.records.specs.Layout.{sizeOf, guidEntry, impInfo}
 use Rattle.records.specs.Record.{limit}
 use Rattle.typelib.specs.declared.TypeLib.{TypeLib}
 use Rattle.typelib.specs.Header.{typeCount}
-use Rattle.typelib.specs.Tables.{lent}
-use Rattle.typelib.specs.TypeInfos.{typeinfoOf}
+use Rattle.typelib.specs.Tables.{lent, negative, segmentOf, placeIn}
+use Rattle.typelib.specs.TypeInfos.{refusing, offsetWord, typeinfoIn, typeinfoOf}
 use Rattle.cursors.specs.Cursors.{fixedAt}
 use Rattle.cursors.specs.CursorLaws.{fixed, lent-value}
-use Rattle.cursors.specs.Numbers.{Next, item, stop, Step, yielded, ended, beside, Counting, withNumber}
-use Rattle.cursors.specs.NumberLaws.{without, as-before, again, by-stops, by-item, step-yields, step-ends, After, counts, Forward, count-is}
+use Rattle.cursors.specs.Numbers.{largest, numberOf, Next, item, stop, Step, yielded, ended, beside, Counting, withNumber}
+use Rattle.cursors.specs.NumberLaws.{number-few, without, as-before, again, by-stops, by-item, step-yields, step-ends, After, counts, Forward, Numbered, number-by-place}
 use Rattle.table_cursors.specs.declared.iterators.GuidCursor.{GuidCursor}
 use Rattle.table_cursors.specs.declared.iterators.ImportCursor.{ImportCursor}
 use Rattle.table_cursors.specs.declared.iterators.ImpFileCursor.{ImpFileCursor}
@@ -25,7 +27,7 @@ use Rattle.table_cursors.specs.declared.iterators.NameCursor.{NameCursor
 use Rattle.table_cursors.specs.declared.iterators.TypeInfoCursor.{TypeInfoCursor}
 use Rattle.table_cursors.specs.Cursors.{TableAt, NamesAt, overGuids, overImports, overImpFiles, overNames, fixedNext, guidStep, guidsOf, importStep, importsOf}
 use Rattle.table_cursors.specs.Cursors.{impFileEntry, impFileNext, impFileStep, impFilesOf, nameEntry, nameNext, nameStep, namesOf, typeinfosFrom, typeinfoNextFrom, typeinfoNext, typeinfoStep}
-use Rattle.table_cursors.specs.CursorLaws.{typeinfos-next, typeinfos-end, entry-inside, name-behind}
+use Rattle.table_cursors.specs.CursorLaws.{typeinfos-next, entry-inside, name-behind}
 
 -- ---- steps go forward, and keep the end
 
@@ -98,10 +100,12 @@ module _ (s : List ℕ) where
   name-stays d = by-stops d _ _ (lent s (nameEntry s d))
 
 pub guid-along : Along (λ (c : GuidCursor). c .pos) (λ (c : GuidCursor). c .end) guidStep
-guid-along = along overGuids at until (fixedNext 24) (λ s. fixed-ahead s 24 (omega arith)) (λ s. fixed-stays s 24)
+guid-along =
+    along overGuids at until (fixedNext (sizeOf guidEntry)) (λ s. fixed-ahead s (sizeOf guidEntry) (omega arith)) (λ s. fixed-stays s (sizeOf guidEntry))
 
 pub import-along : Along (λ (c : ImportCursor). c .pos) (λ (c : ImportCursor). c .end) importStep
-import-along = along overImports at until (fixedNext 12) (λ s. fixed-ahead s 12 (omega arith)) (λ s. fixed-stays s 12)
+import-along =
+    along overImports at until (fixedNext (sizeOf impInfo)) (λ s. fixed-ahead s (sizeOf impInfo) (omega arith)) (λ s. fixed-stays s (sizeOf impInfo))
 
 pub impFile-along : Along (λ (c : ImpFileCursor). c .pos) (λ (c : ImpFileCursor). c .end) impFileStep
 impFile-along = along overImpFiles at until impFileNext impFile-ahead impFile-stays
@@ -109,7 +113,7 @@ impFile-along = along overImpFiles at until impFileNext impFile-ahead impFile-st
 pub name-along : Along (λ (c : NameCursor). c .pos) (λ (c : NameCursor). c .end) nameStep
 name-along = along overNames name-at name-until nameNext name-ahead name-stays
 
--- ---- THE NUMBER AFTER j RECORDS of a table is j, whatever bytes the library's cursor is stepped over
+-- ---- THE RECORD BEHIND j RECORDS of a table has number j, whatever bytes the library's cursor is stepped over
 
 begun : {C : Type 0} (s : List ℕ) (count : C → ℕ) {b c : C} → count b ≡ 0 → value c ≡ lent s (value b) → count c ≡ 0
 begun s count {b} {c} z e =
@@ -117,17 +121,17 @@ begun s count {b} {c} z e =
     ap count q ∙ z
 
 module _ (s : List ℕ) (lib : TypeLib) {j : ℕ} where
-  pub guids-number : {c d : GuidCursor} → value c ≡ guidsOf s lib → After guidStep c j d → d .yielded ≡ j
-  guids-number e = count-is (counts overGuids (fixedNext (sizeOf guidEntry))) (guid-along .forward) (begun s (λ (c : GuidCursor). c .yielded) refl e)
+  pub guids-number : {c d : GuidCursor} → value c ≡ guidsOf s lib → After guidStep c j d → Numbered (λ (x : GuidCursor). x .yielded) guidStep j d
+  guids-number e = number-by-place (counts overGuids (fixedNext (sizeOf guidEntry))) (guid-along .forward) (begun s (λ (c : GuidCursor). c .yielded) refl e)
 
-  pub imports-number : {c d : ImportCursor} → value c ≡ importsOf s lib → After importStep c j d → d .yielded ≡ j
-  imports-number e = count-is (counts overImports (fixedNext (sizeOf impInfo))) (import-along .forward) (begun s (λ (c : ImportCursor). c .yielded) refl e)
+  pub imports-number : {c d : ImportCursor} → value c ≡ importsOf s lib → After importStep c j d → Numbered (λ (x : ImportCursor). x .yielded) importStep j d
+  imports-number e = number-by-place (counts overImports (fixedNext (sizeOf impInfo))) (import-along .forward) (begun s (λ (c : ImportCursor). c .yielded) refl e)
 
-  pub impFiles-number : {c d : ImpFileCursor} → value c ≡ impFilesOf s lib → After impFileStep c j d → d .yielded ≡ j
-  impFiles-number e = count-is (counts overImpFiles impFileNext) (impFile-along .forward) (begun s (λ (c : ImpFileCursor). c .yielded) refl e)
+  pub impFiles-number : {c d : ImpFileCursor} → value c ≡ impFilesOf s lib → After impFileStep c j d → Numbered (λ (x : ImpFileCursor). x .yielded) impFileStep j d
+  impFiles-number e = number-by-place (counts overImpFiles impFileNext) (impFile-along .forward) (begun s (λ (c : ImpFileCursor). c .yielded) refl e)
 
-  pub names-number : {c d : NameCursor} → value c ≡ namesOf s lib → After nameStep c j d → d .yielded ≡ j
-  names-number e = count-is (counts overNames nameNext) (name-along .forward) (begun s (λ (c : NameCursor). c .yielded) refl e)
+  pub names-number : {c d : NameCursor} → value c ≡ namesOf s lib → After nameStep c j d → Numbered (λ (x : NameCursor). x .yielded) nameStep j d
+  names-number e = number-by-place (counts overNames nameNext) (name-along .forward) (begun s (λ (c : NameCursor). c .yielded) refl e)
 
 module _ (s : List ℕ) where
   -- ---- the steps without their numbers are those of before
@@ -168,6 +172,26 @@ module _ (s : List ℕ) (lib : TypeLib) where
       by (item p d) = refl
       by (stop n d) = refl
 
+  -- an entry is refused with 6, 7 or 8, and never with 9, which is the end
+  refusing-never : {A : Type 0} (n : ℕ) → (n ≡ 9 → ⊥) → (a : Answer A) (f : A → Answer Place) → ((x : A) → refused 9 ≡ f x → ⊥) → refused 9 ≡ bind (refusing n a) f → ⊥
+  refusing-never n k (value x) f h e = h x e
+  refusing-never n k (refused m) f h e = let q : 9 ≡ n = cc in k (sym q)
+
+  never-place : (n : ℕ) → (n ≡ 9 → ⊥) → (a : Answer Place) → refused 9 ≡ refusing n a → ⊥
+  never-place n k (value x) e = let z : _≡_ {A = ℕ} 0 1 = cc in omega arith
+  never-place n k (refused m) e = let q : 9 ≡ n = cc in k (sym q)
+
+  pub never-nine : (k : ℕ) → refused 9 ≡ typeinfoOf s lib k → ⊥
+  unfolding lent typeinfoIn
+  never-nine k =
+      let P : Answer Place → Type 0 = λ a. refused 9 ≡ a → ⊥ in
+      let no : (n : ℕ) → (n ≡ 9 → ⊥) → P (refused n) = λ n h e. let q : 9 ≡ n = cc in h (sym q) in
+      cond-elim P (ltb limit (length s)) _ _ (λ _. no 1 (λ q. omega (arith, q))) (λ _.
+      refusing-never 6 (λ q. omega (arith, q)) (offsetWord s lib k) _ (λ offset.
+      cond-elim P (negative offset) _ _ (λ _. no 6 (λ q. omega (arith, q))) (λ _.
+      refusing-never 7 (λ q. omega (arith, q)) (segmentOf lib 0) _ (λ table.
+      never-place 8 (λ q. omega (arith, q)) (placeIn s table offset 100)))))
+
   -- THE NUMBER IS THE INDEX
   pub typeinfo-number : (c d : TypeInfoCursor) (p : Place) (n : ℕ) → yielded p n d ≡ typeinfoStep s lib c → n ≡ c .index .0
   typeinfo-number c d p n = by (typeinfoNext s lib c)
@@ -177,31 +201,46 @@ module _ (s : List ℕ) (lib : TypeLib) where
       by (stop m e) h = let z : _≡_ {A = ℕ} 0 1 = cc in absurd (omega arith)
 
   -- the cursor behind a step, whatever the step said
-  abbrev pub behind : Step Place TypeInfoCursor → TypeInfoCursor
-  behind (yielded p n d) = d
-  behind (ended m d) = d
+  abbrev pub cursorBehind : Step Place TypeInfoCursor → TypeInfoCursor
+  cursorBehind (yielded p n d) = d
+  cursorBehind (ended m d) = d
 
   -- A REFUSED ENTRY IS COUNTED: a step takes the index to the next one, while there are typeinfos
-  pub typeinfo-counts : (k : ℕ) → length s ≤ limit → k < typeCount lib → behind (typeinfoStep s lib (typeinfosFrom k)) ≡ typeinfosFrom (k + 1)
-  typeinfo-counts k h l = ap behind (sym (typeinfos-next s lib (typeinfosFrom k) _ h l refl)) ∙ by (typeinfoOf s lib k)
+  pub typeinfo-counts : (k : ℕ) → length s ≤ limit → k < typeCount lib → cursorBehind (typeinfoStep s lib (typeinfosFrom k)) ≡ typeinfosFrom (k + 1)
+  typeinfo-counts k h l = ap cursorBehind (sym (typeinfos-next s lib (typeinfosFrom k) _ h l refl)) ∙ by (typeinfoOf s lib k)
     where
-      by : (a : Answer Place) → behind (beside (λ d _. d) k (typeinfoNextFrom (typeinfosFrom k) a)) ≡ typeinfosFrom (k + 1)
+      by : (a : Answer Place) → cursorBehind (beside (λ d _. d) k (typeinfoNextFrom (typeinfosFrom k) a)) ≡ typeinfosFrom (k + 1)
       by (value p) = refl
       by (refused n) = refl
 
+  -- which is the number behind k, as of the other cursors: a library has fewer typeinfos than there are numbers
+  pub typeinfo-behind : (k : ℕ) → k < typeCount lib → typeCount lib ≤ largest → typeinfosFrom (k + 1) ≡ typeinfosFrom (numberOf (k + 1))
+  typeinfo-behind k h l = ap typeinfosFrom (sym (number-few (k + 1) (omega (arith, h, l))))
+
   -- the cursor after k steps
-  unfoldable pub after : ℕ → TypeInfoCursor
-  after zero = typeinfosFrom 0
-  after (suc k) = behind (typeinfoStep s lib (after k))
+  unfoldable pub afterSteps : ℕ → TypeInfoCursor
+  afterSteps zero = typeinfosFrom 0
+  afterSteps (suc k) = cursorBehind (typeinfoStep s lib (afterSteps k))
 
   -- so that after k steps from the first, refused entries among them, the index is k
-  pub typeinfos-number : (k : ℕ) → length s ≤ limit → k ≤ typeCount lib → after k ≡ typeinfosFrom k
-  unfolding after
+  pub typeinfos-number : (k : ℕ) → length s ≤ limit → k ≤ typeCount lib → afterSteps k ≡ typeinfosFrom k
+  unfolding afterSteps
   typeinfos-number zero h l = refl
   typeinfos-number (suc k) h l =
-      ap (λ (c : TypeInfoCursor). behind (typeinfoStep s lib c)) (typeinfos-number k h (omega arith))
+      ap (λ (c : TypeInfoCursor). cursorBehind (typeinfoStep s lib c)) (typeinfos-number k h (omega arith))
       ∙ typeinfo-counts k h (omega arith) ∙ ap typeinfosFrom (omega arith)
 
-  -- a cursor behind the last comes back unchanged
-  pub typeinfo-again : (c : TypeInfoCursor) → length s ≤ limit → typeCount lib ≤ c .index .0 → ended 9 c ≡ typeinfoStep s lib c
-  typeinfo-again = typeinfos-end s lib
+  -- A CURSOR THAT REPLIES 9 comes back unchanged, and replies 9 again: no entry is refused with 9
+  pub typeinfo-again : (c d : TypeInfoCursor) → ended 9 d ≡ typeinfoStep s lib c → (d ≡ c) × (ended 9 d ≡ typeinfoStep s lib d)
+  unfolding typeinfoNext
+  typeinfo-again c d h = let same = stays h in (same, h ∙ ap (typeinfoStep s lib) (sym same))
+    where
+      from : (a : Answer Place) → (refused 9 ≡ a → ⊥) → ended 9 d ≡ beside (λ d _. d) (c .index .0) (typeinfoNextFrom c a) → d ≡ c
+      from (value p) n e = let z : _≡_ {A = ℕ} 0 1 = cc in absurd (omega arith)
+      from (refused m) n e = let q : 9 ≡ m = cc in absurd (n (ap refused q))
+
+      stays : ended 9 d ≡ typeinfoStep s lib c → d ≡ c
+      stays =
+          let P : Next Place TypeInfoCursor → Type 0 = λ t. ended 9 d ≡ beside (λ d _. d) (c .index .0) t → d ≡ c in
+          cond-elim P (ltb limit (length s)) _ _ (λ _ e. let q : _≡_ {A = ℕ} 9 1 = cc in absurd (omega (arith, q))) (λ _.
+          cond-elim P (leb (typeCount lib) (c .index .0)) _ _ (λ _ e. cc) (λ _. from (typeinfoOf s lib (c .index .0)) (never-nine (c .index .0))))

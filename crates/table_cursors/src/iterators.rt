@@ -1,8 +1,8 @@
 // Cursors over the tables of a library: iterators.rs of the source.
 //
 // A cursor goes in by value and comes back. One step replies as one `next` of the source, kept to its table as document 02 says: the
-// record, its number from 0 and the next cursor, or a refusal and the same cursor. 9 is the end; the typeinfo cursor also goes on after a
-// refusal 6, 7 or 8, and its number is its index.
+// record, its number from 0 and the next cursor, or a refusal and the same cursor. 9 is the end. The number of a typeinfo is its index:
+// refused with 6, 7 or 8 it is counted, and the cursor goes on behind it.
 use cursors::iterators;
 use records::answer;
 use records::answer::Place;

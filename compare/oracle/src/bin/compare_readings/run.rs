@@ -210,14 +210,14 @@ impl Run {
         }
     }
 
-    /// Steps every cursor of the library that was asked about last from its start, with this count set before, and
-    /// holds its records and their numbers to the reference's iterators with `enumerate`. Of a chain there are at most
-    /// so many records.
+    /// Steps every cursor of the library from its start, with this count set before, and holds its records and their
+    /// numbers to the reference's iterators with `enumerate`. Of a chain there are at most so many records.
     pub fn step(&mut self, input: &Input, count: usize, most_links: usize) {
         let both = Both::new(&input.bytes);
         let (Ok(kept), Ok(right)) = (&both.kept.lib, &both.own.lib) else {
             return;
         };
+        self.lent.hold(&input.bytes, Side::End);
         let (all, notes) = noting(|| stepped::all(kept, most_links));
         if notes.is_empty() {
             let right = own::stepped::all(right, most_links);

@@ -1,13 +1,13 @@
 use Rattle.records.specs.AnswerLaws.{tells}
 use Rattle.records.specs.Told.{toldPlace}
 use Rattle.typelib.specs.TableLaws.{lent-long, lent-fits, found-in}
-use Rattle.impltypes.specs.ChainLaws.{step-none, step-record}
+use Rattle.impltypes.specs.ChainLaws.{chain-none, chain-record}
 use borrow.Author.Needs.{needs}
 use Rattle.impltypes.proofs.ImplTypeCursor.step.Statement.{statement}
 use Rattle.impltypes.proofs.ImplTypeCursor.step.Tie as tie
 
 returns : tie.Need-returns
-returns c = step-none _ _ 1 (lent-long _ _ (c .if1 .taken))
+returns c = chain-none _ _ 1 (lent-long _ _ (c .if1 .taken))
 
 reference-at-requires : tie.Need-reference-at-requires
 reference-at-requires c κs = search needs
@@ -25,10 +25,10 @@ enum-known-n : tie.Need-enum-known-n
 enum-known-n c = search needs
 
 returns-2 : tie.Need-returns-2
-returns-2 c = step-record _ _ _ _ _ (c .before .before .before .before .before .before .before .if1 .left) (tells toldPlace (c .before .before .before .place .given .1) (c .before .before .before .before .before .reference-at .ensures)) (c .before .next-offset .ensures) (c .number-behind .ensures)
+returns-2 c = chain-record _ _ _ _ _ (c .before .before .before .before .before .before .before .if1 .left) (tells toldPlace (c .before .before .before .place .given .1) (c .before .before .before .before .before .reference-at .ensures)) (c .before .next-offset .ensures) (c .number-behind .ensures)
 
 returns-3 : tie.Need-returns-3
-returns-3 c = step-none _ _ _ (lent-fits _ _ _ (c .before .before .before .before .before .if1 .left) (tells toldPlace (c .before .n .given .1) (c .before .before .before .reference-at .ensures)))
+returns-3 c = chain-none _ _ _ (lent-fits _ _ _ (c .before .before .before .before .before .if1 .left) (tells toldPlace (c .before .n .given .1) (c .before .before .before .reference-at .ensures)))
 
 pub step-spec : {M : Type 1} → statement M
 step-spec =
