@@ -244,7 +244,7 @@ by-item Q d f g (refused n) h r e q = let z : _≡_ {A = ℕ} 0 1 = cc in absurd
 abbrev left : BlockAt → ℕ
 left d = d .remaining
 
--- where something is left a record is found, and then one less is
+-- a record is found only where something is left, and then one less is
 block-lessens : (least : ℕ) (s : List ℕ) (d e : BlockAt) (p : Place) → item p e ≡ blockNext least s d → Lessens left d e
 block-lessens least s d e p =
     by-item (λ _ x. Lessens left d x) d _ _ (lent s (recordAt s (d .pos) (d .end) (d .remaining) least)) (λ n h.
