@@ -1,4 +1,4 @@
-/* What number each cursor gives its records. Steps each over bytes made here, to its end, or three
+/* What number each cursor gives its records, and that calls write as much as the header names. Steps each over bytes made here, to its end, or three
    times along a chain that has none, and prints the numbers and the places. */
 #include <inttypes.h>
 #include <stdio.h>
@@ -32,7 +32,7 @@ static void members(const char *what, member_step *step, uint8_t size, uint64_t 
     msft_cursor at = {0, 2 * (size_t)size, 3, yielded};
     bytes[0] = size;
     bytes[size] = size;
-    while (0 < step(bytes, sizeof bytes, MSFT_CURSOR(at), out, sizeof out)) {
+    while (step(bytes, sizeof bytes, MSFT_CURSOR(at), out, sizeof out) == (int64_t)sizeof out) {
         msft_yield y = msft_unpack_yield(out);
         say(what, y.number, y.record);
         at = y.next;
@@ -50,7 +50,7 @@ static void table(const char *what, table_step *step, size_t size)
 {
     uint8_t bytes[2 * MOST_SIZE + 1] = {0}, out[MSFT_TABLE_YIELD_BYTES];
     msft_table_cursor at = {0, 2 * size + 1, 0};
-    while (0 < step(bytes, sizeof bytes, MSFT_TABLE_CURSOR(at), out, sizeof out)) {
+    while (step(bytes, sizeof bytes, MSFT_TABLE_CURSOR(at), out, sizeof out) == (int64_t)sizeof out) {
         msft_table_yield y = msft_unpack_table_yield(out);
         say(what, y.number, y.record);
         at = y.next;
@@ -65,7 +65,7 @@ static void names(void)
     msft_name_cursor at = {0, sizeof bytes, 0, 0};
     bytes[8] = 4;
     bytes[NAME_SIZE + 4 + 8] = 4;
-    while (0 < msft_name_step(bytes, sizeof bytes, MSFT_NAME_CURSOR(at), out, sizeof out)) {
+    while (msft_name_step(bytes, sizeof bytes, MSFT_NAME_CURSOR(at), out, sizeof out) == (int64_t)sizeof out) {
         msft_name_yield y = msft_unpack_name_yield(out);
         say("name", y.number, y.record.text);
         at = y.next;
@@ -87,7 +87,7 @@ static void typeinfos(void)
     set_word(bytes + DIRECTORY + 4, 2 * SIZE);
     for (size_t index = 0; index <= COUNT;) {
         int64_t reply = msft_typeinfo_step(bytes, sizeof bytes, index, out, sizeof out);
-        if (reply < 0) {
+        if (reply != (int64_t)sizeof out) {
             printf("typeinfo %zu: refused %d\n", index, (int)-reply);
             index++;
             continue;
@@ -106,7 +106,8 @@ static void chain(uint64_t yielded)
     uint8_t bytes[REF_SIZE] = {0}, out[MSFT_CHAIN_YIELD_BYTES];
     msft_chain_cursor at = {0, REF_SIZE, 0, yielded};
     for (int i = 0; i < 3; i++) {
-        if (msft_impl_type_step(bytes, sizeof bytes, MSFT_CHAIN_CURSOR(at), out, sizeof out) < 0)
+        if (msft_impl_type_step(bytes, sizeof bytes, MSFT_CHAIN_CURSOR(at), out, sizeof out)
+            != (int64_t)sizeof out)
             return;
         msft_chain_yield y = msft_unpack_chain_yield(out);
         say("reference", y.number, y.record);
@@ -125,6 +126,22 @@ static void walk(void)
         printf("walk: %zu\n", msft_unpack_size(out));
 }
 
+/* ---- lengths ---- */
+
+/* What sets a cursor up, over the smallest library: how many write as much as the header names for them. */
+static void lengths(void)
+{
+    enum { LIBRARY_SIZE = 324, TYPE_SIZE = 100 };
+    uint8_t bytes[LIBRARY_SIZE] = {'M', 'S', 'F', 'T'}, out[MSFT_NAME_YIELD_BYTES];
+    int right = 0;
+    right += msft_funcs(bytes, sizeof bytes, 0, TYPE_SIZE, out, sizeof out) == MSFT_CURSOR_BYTES;
+    right += msft_guids(bytes, sizeof bytes, out, sizeof out) == MSFT_TABLE_CURSOR_BYTES;
+    right += msft_names(bytes, sizeof bytes, out, sizeof out) == MSFT_NAME_CURSOR_BYTES;
+    right += msft_impl_types(bytes, sizeof bytes, 0, TYPE_SIZE, out, sizeof out) == MSFT_CHAIN_CURSOR_BYTES;
+    right += msft_typeinfos(bytes, sizeof bytes, out, sizeof out) == MSFT_SIZE_BYTES;
+    printf("cursors of the length that is named: %d of 5\n", right);
+}
+
 int main(void)
 {
     members("function", msft_func_step, FUNC_SIZE, 0);
@@ -139,5 +156,6 @@ int main(void)
     chain(0);
     chain(UINT64_MAX - 1);
     walk();
+    lengths();
     return 0;
 }
