@@ -1,7 +1,7 @@
-/* tlb check: whether a library is read, with what it names outside its tables, and if not, what is refused
-   and where. */
+/* tlb check: whether a library is read, with what it names outside its tables and what is not UTF-8, and if not,
+   what is refused and where. */
 #include "commands.h"
-#include "outside.h"
+#include "findings.h"
 #include "spell.h"
 
 #include <inttypes.h>
@@ -152,7 +152,7 @@ int check_command(const char *path)
     int status = reply == INT64_MIN ? TROUBLE : reply < 0 ? REFUSED : DONE;
     if (status == DONE) {
         say_read(&l, &s);
-        print_outside(&l);
+        print_findings(&l);
     }
     if (status == REFUSED) {
         say_refused(&l, reply);

@@ -1,5 +1,5 @@
 /* Writes damaged copies of a library, for the tests: damage FILE FOLDER COUNT. The same file and count
-   give the same copies, FOLDER/0 and up. */
+   give the same copies, FOLDER/0 and up. With a place behind, AT LENGTH, the damage is to texts there alone. */
 #include <stdint.h>
 #include <stdio.h>
 #include <stdlib.h>
@@ -58,6 +58,30 @@ static void damage_once(void)
     }
 }
 
+/* Characters at the edges of RFC 3629's grammar, and what breaks off or is none: a text with a few of these is UTF-8
+   or stops being it anywhere. */
+static void damage_text(size_t at, size_t len)
+{
+    static const char *const characters[] = {
+        "\x7f", "\xc2\x80", "\xdf\xbf", "\xe0\xa0\x80", "\xe1\x80\x80", "\xec\xbf\xbf", "\xed\x9f\xbf",
+        "\xee\x80\x80", "\xef\xbf\xbf", "\xf0\x90\x80\x80", "\xf1\x80\x80\x80", "\xf3\xbf\xbf\xbf",
+        "\xf4\x8f\xbf\xbf", "\x80", "\xbf", "\xc0\x80", "\xc1\xbf", "\xc3", "\xe0\x9f\xbf", "\xe2\x82",
+        "\xed\xa0\x80", "\xed\xbf\xbf", "\xf0\x8f\xbf\xbf", "\xf0\x9f\x98", "\xf4\x90\x80\x80", "\xf5\x80",
+        "\xff"};
+    const char *character = characters[any(sizeof characters / sizeof *characters)];
+    size_t offset = any(len);
+    for (size_t i = 0; character[i] != '\0' && offset + i < len && at + offset + i < copy_len; i++)
+        copy[at + offset + i] = (uint8_t)character[i];
+}
+
+static void damage_copy(void)
+{
+    for (size_t n = 1 + any(6); 0 < n; n--)
+        damage_once();
+    if (any(16) == 0)
+        copy_len = any(copy_len);
+}
+
 static int write_copy(const char *folder, int number)
 {
     char path[4096];
@@ -73,18 +97,18 @@ static int write_copy(const char *folder, int number)
 
 int main(int argc, char **argv)
 {
-    FILE *file = argc == 4 ? fopen(argv[1], "rb") : NULL;
+    FILE *file = argc == 4 || argc == 6 ? fopen(argv[1], "rb") : NULL;
     if (file == NULL)
-        return fputs("usage: damage FILE FOLDER COUNT\n", stderr), 2;
+        return fputs("usage: damage FILE FOLDER COUNT [AT LENGTH]\n", stderr), 2;
     whole_len = fread(whole, 1, sizeof whole, file);
     fclose(file);
     for (int i = 0; i < atoi(argv[3]); i++) {
         memcpy(copy, whole, whole_len);
         copy_len = whole_len;
-        for (size_t n = 1 + any(6); 0 < n; n--)
-            damage_once();
-        if (any(16) == 0)
-            copy_len = any(copy_len);
+        if (argc == 4)
+            damage_copy();
+        for (size_t n = argc == 6 ? 1 + any(24) : 0; 0 < n; n--)
+            damage_text((size_t)atoi(argv[4]), (size_t)atoi(argv[5]));
         if (write_copy(argv[2], i) != 0)
             return 2;
     }

@@ -1,10 +1,12 @@
 #!/usr/bin/env python3
-"""Prints from a raw sheet what `tlb members` must list of its library: listing.py SHEET.
+"""Prints from a raw sheet what `tlb members` must list of its library, and writes to a file which of its names
+`tlb check` must tell as not UTF-8: listing.py SHEET FILE.
 
 The tool reads the library's records; this reads the sheet, which is proved to be the library's
 description, by document 01's layout. The tests hold the two against each other. The sheet has no
 numbers: a function's or a variable's is its place in the sheet's list, from 0. The library's help
-string is in no sheet, and `extends` is left out where the reference is nothing."""
+string is in no sheet, and `extends` is left out where the reference is nothing. Where a name stops being UTF-8
+is what Python's decoder says; its line has numbers and no names, and no offsets."""
 import math
 import struct
 import sys
@@ -26,6 +28,20 @@ UNSIGNED = {17: 1, 18: 2, 19: 4, 21: 8, 23: 4}
 class Reader:
     def __init__(self, data):
         self.data, self.at = data, 0
+        self.where, self.faults = ['the library'], []
+
+    def within(self, part, number, read):
+        """What `read` reads is a part, by that number, of what is read now."""
+        self.where.append('%s %d' % (part, number))
+        found = read(self, number)
+        self.where.pop()
+        return found
+
+    def text(self, what, text):
+        words = fault(text)
+        if words:
+            self.faults.append('%s: %s: %s' % (', '.join(self.where[1:] or self.where), what, words))
+        return text
 
     def take(self, count):
         part = self.data[self.at:self.at + count]
@@ -42,14 +58,14 @@ class Reader:
         return read() if code else None
 
     def name(self):
-        return self.take(self.number(1))
+        return self.text('its name', self.take(self.number(1)))
 
     def guid(self):
         a, b, c, d = struct.unpack('<IHH8s', self.take(16))
         h = d.hex().upper()
         return '{%08X-%04X-%04X-%s-%s}' % (a, b, c, h[:4], h[4:])
 
-    def reference(self):
+    def reference(self, of):
         code = self.number(1)
         if code == 0:
             return None
@@ -60,15 +76,15 @@ class Reader:
             what = self.opt(self.guid) or '(nothing)'
         else:
             what = '#%d' % struct.unpack('<i', self.take(4))
-        file = self.opt(self.file)
+        file = self.opt(lambda: self.file(of))
         return ('(no file)' if file is None else file) + ':' + what
 
-    def file(self):
+    def file(self, of):
         self.opt(self.guid)
         self.take(8)
-        return words(self.take(self.number(2)))
+        return words(self.text('the file name in the import file of ' + of, self.take(self.number(2))))
 
-    def tree(self):
+    def tree(self, of):
         code = self.number(1)
         if code == 0:
             return lambda names: '(nothing)'
@@ -77,12 +93,12 @@ class Reader:
             return lambda names: CODES.get(base, 'Unknown(%d)' % base)
         if code == 4:
             bounds = ''.join(bound(*struct.unpack('<Ii', self.take(8))) for _ in range(self.number(2)))
-            inner = self.tree()
+            inner = self.tree(of)
             return lambda names: inner(names) + bounds
         if code == 5:
-            to = self.reference()
+            to = self.reference(of)
             return lambda names: referred(to, names)
-        inner = self.tree()
+        inner = self.tree(of)
         return lambda names: ('SAFEARRAY(%s)' if code == 3 else '%s*') % inner(names)
 
     def constant(self):
@@ -110,6 +126,21 @@ class Reader:
             return '0x%016x' % self.number(8)
         form = '0x%08x' if code in (10, 25) else 'raw(' + str(code) + ', 0x%08x)'
         return form % self.number(4)
+
+
+def fault(text):
+    """At which byte a text stops being UTF-8, in words; '' where it does not."""
+    try:
+        text.decode('utf-8')
+        return ''
+    except UnicodeDecodeError as error:
+        first, behind, reason = error.start, error.end, error.reason
+    if reason == 'unexpected end of data':
+        return 'its last character breaks off behind byte %d, 0x%02x' % (len(text) - 1, text[-1])
+    if reason == 'invalid start byte':
+        return 'byte %d, 0x%02x, begins no character' % (first, text[first])
+    assert reason == 'invalid continuation byte'
+    return 'byte %d, 0x%02x, cannot follow%s' % (behind, text[behind], ''.join(' 0x%02x' % b for b in text[first:behind]))
 
 
 def words(text):
@@ -157,24 +188,24 @@ def row(number, memid, offset, kind, rest):
                                                 '-' if offset is None else '0x%04x' % offset, kind, rest)
 
 
-def parameter(r):
-    tree, name, flags, default = r.tree(), r.opt(r.name), r.number(4), r.opt(r.constant)
+def parameter(r, _):
+    tree, name, flags, default = r.tree('its type'), r.opt(r.name), r.number(4), r.opt(r.constant)
     value = ' = ' + (default or '(nothing)') if flags & 0x20 else ''
     return lambda names: brackets(flags & ~0x20, PARAMETER) + tree(names) + ' ' + named(name) + value
 
 
 def function(r, number):
-    memid, name, tree = r.opt(lambda: r.number(4)), r.opt(r.name), r.tree()
+    memid, name, tree = r.opt(lambda: r.number(4)), r.opt(r.name), r.tree('its result')
     r.number(4)
     offset, kind = r.number(2), INVOKE.get(r.number(4) >> 3 & 15, 'unknown')
     r.take(4)
-    parameters = [parameter(r) for _ in range(r.number(2))]
+    parameters = [r.within('parameter', i, parameter) for i in range(r.number(2))]
     return lambda names: row(number, memid, offset, kind, '%s %s(%s)' % (
         tree(names), named(name), ', '.join(p(names) for p in parameters)))
 
 
 def variable(r, number):
-    memid, name, tree = r.opt(lambda: r.number(4)), r.opt(r.name), r.tree()
+    memid, name, tree = r.opt(lambda: r.number(4)), r.opt(r.name), r.tree('its type')
     r.number(4)
     kind = r.number(2)
     value = r.opt(r.constant) if kind == 2 else r.number(4)
@@ -183,21 +214,25 @@ def variable(r, number):
                              tree(names) + ' ' + named(name) + rest)
 
 
+def interface(r, _):
+    return r.reference('its type'), r.number(4)
+
+
 def base(r, kind):
     if kind == 5:
-        found = [(r.reference(), r.number(4)) for _ in range(r.number(4))]
+        found = [r.within('interface', i, interface) for i in range(r.number(4))]
         return lambda names: ['    implements ' + brackets(f, IMPLEMENTED) + referred(to, names) for to, f in found]
     if kind in (3, 4):
-        to = r.reference()
+        to = r.reference('its base')
         return lambda names: [] if to is None else ['    extends ' + referred(to, names)]
     if kind == 6:
-        tree = r.tree()
+        tree = r.tree('what it stands for')
         return lambda names: ['    stands for ' + tree(names)]
     return lambda names: []
 
 
 def members(r, what, declared, read):
-    found = [read(r, number) for number in range(r.number(2))]
+    found = [r.within(what[:-1], number, read) for number in range(r.number(2))]
     short = ['    (declares %d %s, found %d)' % (declared, what, len(found))] if declared != len(found) else []
     return found, short
 
@@ -237,7 +272,7 @@ def main():
     assert r.at == ends[0]
     types = []
     for i in range(count):
-        types.append(type_body(r, i))
+        types.append(r.within('type', i, type_body))
         assert r.at == ends[i + 1]
     assert r.at == len(r.data)
     names = [name for name, _ in types]
@@ -245,6 +280,8 @@ def main():
     print('    %s, lcid 0x%04x, %d types' % (versions(version), lcid, count))
     for _, lines in types:
         print('\n'.join(lines(names)))
+    with open(sys.argv[2], 'w') as faults:
+        faults.writelines(line + '\n' for line in r.faults)
 
 
 main()

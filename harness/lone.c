@@ -1,4 +1,4 @@
-/* Calls about bytes that are no library: records, cursors and a chain alone. Prints what each replies. */
+/* Calls about bytes that are no library: records, cursors, a chain and texts alone. Prints what each replies. */
 #include <stdio.h>
 #include <stdlib.h>
 
@@ -66,15 +66,45 @@ static void name(void)
     say("past the bytes", msft_name_step(entry, NAME_SIZE - 1, 0, NAME_SIZE, 0, 0, out, sizeof out));
 }
 
+/* The check of a text: whether it is UTF-8, and how many of its bytes were looked at. */
+static void check(const char *what, const uint8_t *bytes, size_t bytes_len, msft_place text)
+{
+    uint8_t out[MSFT_TEXT_CHECK_BYTES];
+    int64_t reply = msft_text_check(bytes, bytes_len, MSFT_PLACE(text), out, sizeof out);
+    if (reply < 0) {
+        say(what, reply);
+        return;
+    }
+    msft_text_checked c = msft_unpack_text_checked(out);
+    printf("%s: %d, %s, looked at %zu\n", what, (int)reply, c.is_valid ? "valid" : "not valid", c.looked_at);
+}
+
+/* A letter, an e with an acute accent, and the first byte of another. */
+static void texts(void)
+{
+    static const uint8_t bytes[] = {'a', 0xc3, 0xa9, 0xc3};
+    const msft_place whole = {0, 3}, broken = {0, 4}, behind = {2, 2}, none = {4, 0}, past = {1, 4};
+    uint8_t out[MSFT_TEXT_CHECK_BYTES];
+    check("a text", bytes, sizeof bytes, whole);
+    check("a text that breaks off", bytes, sizeof bytes, broken);
+    check("a text from within a letter", bytes, sizeof bytes, behind);
+    check("an empty text", bytes, sizeof bytes, none);
+    check("a text past the end", bytes, sizeof bytes, past);
+    say("a text, no room", msft_text_check(bytes, sizeof bytes, MSFT_PLACE(whole), out, sizeof out - 1));
+}
+
 /* What parses refuses such bytes, and over-long bytes are refused by all. */
 static int refused(void)
 {
+    const msft_place all = {0, MOST_BYTES};
     uint8_t none[VAR_SIZE] = {0}, *bytes = calloc(MOST_BYTES + 1, 1);
     if (bytes == NULL)
         return 2;
     say("the locale", msft_lcid(none, sizeof none));
     say("as long as may be", msft_var_flags(bytes, MOST_BYTES, 0, VAR_SIZE));
+    check("a text as long", bytes, MOST_BYTES, all);
     say("over-long", msft_var_flags(bytes, MOST_BYTES + 1, 0, VAR_SIZE));
+    check("a text in it", bytes, MOST_BYTES + 1, all);
     free(bytes);
     return 0;
 }
@@ -85,5 +115,6 @@ int main(void)
     parameters();
     chain();
     name();
+    texts();
     return refused();
 }

@@ -1,5 +1,5 @@
-/* What number each cursor gives its records, and that calls write as much as the header names. Steps each over bytes made here, to its end, or three
-   times along a chain that has none, and prints the numbers and the places. */
+/* What number each cursor gives its records, and that calls write as much as the header names. Steps each over
+   bytes made here, to its end, or three times along a chain that has none, and prints the numbers and the places. */
 #include <inttypes.h>
 #include <stdio.h>
 
@@ -128,7 +128,8 @@ static void walk(void)
 
 /* ---- lengths ---- */
 
-/* What sets a cursor up, over the smallest library: how many write as much as the header names for them. */
+/* What sets a cursor up, and the check of a text, over the smallest library: how many write as much as the header
+   names for them. */
 static void lengths(void)
 {
     enum { LIBRARY_SIZE = 324, TYPE_SIZE = 100 };
@@ -139,7 +140,8 @@ static void lengths(void)
     right += msft_names(bytes, sizeof bytes, out, sizeof out) == MSFT_NAME_CURSOR_BYTES;
     right += msft_impl_types(bytes, sizeof bytes, 0, TYPE_SIZE, out, sizeof out) == MSFT_CHAIN_CURSOR_BYTES;
     right += msft_typeinfos(bytes, sizeof bytes, out, sizeof out) == MSFT_SIZE_BYTES;
-    printf("cursors of the length that is named: %d of 5\n", right);
+    right += msft_text_check(bytes, sizeof bytes, 0, 4, out, sizeof out) == MSFT_TEXT_CHECK_BYTES;
+    printf("calls that write the length that is named: %d of 6\n", right);
 }
 
 int main(void)

@@ -10,8 +10,8 @@ static const char usage[] =
     "usage: tlb members FILE         every type and member\n"
     "       tlb sheet [-o OUT] FILE  the sheet, in hex; raw to OUT\n"
     "       tlb same FILE FILE       whether two libraries have the same description\n"
-    "       tlb check FILE           whether it is read, and what leads out of its tables;\n"
-    "                                or what is refused and why\n"
+    "       tlb check FILE           whether it is read, what leads out of its tables and which\n"
+    "                                texts are not UTF-8; or what is refused and why\n"
     "       tlb --help               this text\n"
     "\n"
     "Exit status: 0 done (same: the same); 1 refused (same: different); 2 trouble.\n";

@@ -16,8 +16,8 @@
 
    Calls that need the library's header, its table of offsets or a segment begin with `parse`, and
    reply -1 to -5 where the bytes are no library. The others read only the lent bytes, if they take any;
-   these need be no library, and are not parsed: those of a record by its place; msft_funcs, msft_vars and
-   msft_params, which are a typeinfo's or a function's own cursors; every step but
+   these need be no library, and are not parsed: those of a record or a text by its place; msft_funcs,
+   msft_vars and msft_params, which are a typeinfo's or a function's own cursors; every step but
    msft_typeinfo_step; msft_walk; and a member's identifier and the offset of its name,
    msft_func_memid, msft_var_memid, msft_func_name_offset and msft_var_name_offset. They reply -1
    where more than 16,777,216 bytes are lent, and -9 for a record that is not wholly inside them or
@@ -237,6 +237,16 @@ int64_t msft_impfile_entry_size(
 /* ---- name: an entry of the name table, by the place of its text ---- */
 /* The entry's name, where it is UTF-8. Writes a place (16 bytes); -1, -9, -12. */
 int64_t msft_nameentry_name(
+    const uint8_t *lib, size_t lib_len, size_t at, size_t len, uint8_t *out, size_t out_len);
+
+/* ---- textcheck: a text, by its place ---- */
+/* Whether the bytes are UTF-8 (RFC 3629), and how many of them were looked at, each once: all of a valid
+   text and of one that only breaks off, else up to and with the first byte that no valid text has there
+   after the bytes before it. A text that is not valid and was looked at whole breaks off, or has that
+   byte as its last: checked with a byte more behind it, any byte that is lent with it, only one that
+   breaks off is looked at whole again. Writes a u8, 1 where they are UTF-8 and 0 where not, and a u64
+   (9 bytes); -1, -9 for a place that is not inside the lent bytes, -12. */
+int64_t msft_text_check(
     const uint8_t *lib, size_t lib_len, size_t at, size_t len, uint8_t *out, size_t out_len);
 
 /* ---- typeinfo: a typeinfo, by its place ---- */
@@ -835,7 +845,8 @@ static inline msft_place msft_unpack_place(const uint8_t *out)
 /* The cursors, and of each its yield: what a step from it wrote, the record, its number and the next
    cursor in one piece. */
 
-/* How many bytes a call writes for each; MSFT_SIZE_BYTES, for an index or the count of a walk. */
+/* How many bytes a call writes for each; MSFT_SIZE_BYTES, for an index or the count of a walk;
+   MSFT_TEXT_CHECK_BYTES, for the check of a text. */
 enum msft_bytes {
     MSFT_SIZE_BYTES = 8,
     MSFT_CURSOR_BYTES = 32,
@@ -846,7 +857,8 @@ enum msft_bytes {
     MSFT_NAME_YIELD_BYTES = 75,
     MSFT_TYPEINFO_YIELD_BYTES = 32,
     MSFT_CHAIN_CURSOR_BYTES = 28,
-    MSFT_CHAIN_YIELD_BYTES = 52
+    MSFT_CHAIN_YIELD_BYTES = 52,
+    MSFT_TEXT_CHECK_BYTES = 9
 };
 
 /* Functions, variables and parameters. */
@@ -1023,6 +1035,20 @@ static inline msft_chain_yield msft_unpack_chain_yield(const uint8_t *out)
     y.number = msft_le(out + 16, 8);
     y.next = msft_unpack_chain_cursor(out + 24);
     return y;
+}
+
+/* The check of a text: is_valid is 1 where it is UTF-8; how many of its bytes were looked at. */
+typedef struct msft_text_checked {
+    uint8_t is_valid;
+    size_t looked_at;
+} msft_text_checked;
+
+static inline msft_text_checked msft_unpack_text_checked(const uint8_t *out)
+{
+    msft_text_checked c;
+    c.is_valid = out[0];
+    c.looked_at = msft_unpack_size(out + 1);
+    return c;
 }
 
 /* The bounds of one dimension of an array. */

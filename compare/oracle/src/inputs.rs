@@ -9,6 +9,7 @@ pub mod layout;
 pub mod made;
 pub mod records;
 pub mod table_ends;
+pub mod text_bytes;
 pub mod texts;
 
 use std::path::{Path, PathBuf};

@@ -53,6 +53,7 @@ calls! {
     name_bytes msft_name_bytes(offset: i32),
     string msft_string(offset: i32),
     const_value msft_const_value(word: i32),
+    text_check msft_text_check(at: usize, len: usize),
 }
 
 unsafe extern "C" {
@@ -165,6 +166,16 @@ pub fn string(lib: &[u8], offset: i32, out: &mut Out) -> u64 {
 pub fn constant(lib: &[u8], word: i32, out: &mut Out) -> u64 {
     match raw::const_value(lib, word, &mut out.0) {
         1.. => u64::from(u16::from_le_bytes([out.0[0], out.0[1]])),
+        _ => 0,
+    }
+}
+
+/// How many bytes of the text at a place are looked at, if it is valid; else 0.
+pub fn text_check(lib: &[u8], at: usize, len: usize, out: &mut Out) -> u64 {
+    let reply = raw::text_check(lib, at, len, &mut out.0);
+    let [looked] = out.numbers(1);
+    match (reply, out.0[0]) {
+        (1.., 1) => looked as u64,
         _ => 0,
     }
 }

@@ -1,11 +1,12 @@
 //! What the reference answers to every method of a record, as bytes.
 
+use crate::text_check::{TextCheck, text_check};
 use crate::{
     ArrayDesc, FuncRecord, Guid, GuidEntry, ImpFile, ImpInfo, NameEntry, ParameterInfo, RefRecord,
     SafeArrayBound, TypeInfoEntry, TypeKind, VarRecord, vt_name,
 };
 
-/// What is asked: a kind of record, or one of two conversions from a number.
+/// What is asked: a kind of record, one of two conversions from a number, or the check of a text.
 /// The discriminant is the kind's number in the recorded file.
 #[derive(Clone, Copy, Debug, PartialEq, Eq, PartialOrd, Ord, Hash)]
 #[repr(u8)]
@@ -23,11 +24,12 @@ pub enum Kind {
     VtName = 10,
     TypeKind = 11,
     Name = 12,
+    TextCheck = 13,
 }
 
 impl Kind {
     /// Every kind, by number.
-    pub const ALL: [Kind; 13] = [
+    pub const ALL: [Kind; 14] = [
         Kind::Guid,
         Kind::GuidEntry,
         Kind::Param,
@@ -41,6 +43,7 @@ impl Kind {
         Kind::VtName,
         Kind::TypeKind,
         Kind::Name,
+        Kind::TextCheck,
     ];
 
     /// The kind's name in what the replay prints.
@@ -59,17 +62,18 @@ impl Kind {
             Kind::VtName => "vt_name",
             Kind::TypeKind => "typekind",
             Kind::Name => "name",
+            Kind::TextCheck => "textcheck",
         }
     }
 
-    /// Whether this is a kind of record, and not a conversion from a number.
+    /// Whether this is asked of a place, as a kind of record or a text is, and is no conversion from a number.
     pub fn is_record(self) -> bool {
         !matches!(self, Kind::VtName | Kind::TypeKind)
     }
 
     /// The length below which the reference holds no record of this kind.
     /// It names no constant for a GUID's 16 bytes and an array descriptor's 8. A name entry holds a
-    /// text of any length.
+    /// text of any length, and a text of any length is checked.
     pub fn fixed_part(self) -> usize {
         match self {
             Kind::Guid => 16,
@@ -82,7 +86,7 @@ impl Kind {
             Kind::TypeInfo => TypeInfoEntry::SIZE,
             Kind::Var => VarRecord::BASE_SIZE,
             Kind::Func => FuncRecord::BASE_SIZE,
-            Kind::VtName | Kind::TypeKind | Kind::Name => 0,
+            Kind::VtName | Kind::TypeKind | Kind::Name | Kind::TextCheck => 0,
         }
     }
 }
@@ -185,6 +189,7 @@ pub fn readings(kind: Kind, lent: &[u8], at: u32, len: u32, arg: u32) -> Vec<Rea
             ]
         }
         Kind::Name => name_readings(lent, inside, arg),
+        Kind::TextCheck => vec![reading("text_check", lent, inside.map(text_check))],
     }
 }
 
@@ -323,6 +328,13 @@ impl Reply for SafeArrayBound {
     fn write(self, lent: &[u8], answer: &mut Vec<u8>) {
         self.count().write(lent, answer);
         answer.extend(self.lower_bound().to_le_bytes());
+    }
+}
+
+impl Reply for TextCheck {
+    fn write(self, _: &[u8], answer: &mut Vec<u8>) {
+        answer.push(VALUE);
+        answer.extend(self.bytes());
     }
 }
 

@@ -6,7 +6,7 @@ pub mod sheets;
 use std::hint::black_box;
 use std::time::{Duration, Instant};
 
-/// How many rounds a case is timed, and how long its rounds of the reference together should take.
+/// How many rounds a case is mostly timed, and how long its rounds of the reference together should take.
 const FEWEST_ROUNDS: usize = 3;
 const MOST_ROUNDS: usize = 101;
 const ALL_ROUNDS: Duration = Duration::from_millis(1500);
@@ -60,9 +60,14 @@ pub fn print_titles() {
 }
 
 impl Case<'_> {
-    /// Times the case and prints its line. The ratio is that of the least times.
-    pub fn print(mut self) {
-        let (counted, rust, product) = self.time();
+    /// Times the case and prints its line.
+    pub fn print(self) {
+        self.print_rounds(MOST_ROUNDS);
+    }
+
+    /// Times the case in at most so many rounds and prints its line. The ratio is that of the least times.
+    pub fn print_rounds(mut self, most_rounds: usize) {
+        let (counted, rust, product) = self.time(most_rounds);
         let calls = self.calls.unwrap_or(counted as usize);
         let ratio = match product.0.is_empty() {
             true => "-".into(),
@@ -80,7 +85,7 @@ impl Case<'_> {
 
     /// What is counted, and the times. A first round warms up, tells how many follow, and compares
     /// what is counted: times of different work would say nothing.
-    fn time(&mut self) -> (u64, Times, Times) {
+    fn time(&mut self, most_rounds: usize) -> (u64, Times, Times) {
         let started = Instant::now();
         let right = (self.rust)();
         let once = started.elapsed().as_secs_f64();
@@ -94,7 +99,7 @@ impl Case<'_> {
         }
         let (mut rust, mut product) = (Times::default(), Times::default());
         let rounds = (ALL_ROUNDS.as_secs_f64() / once) as usize;
-        for _ in 0..rounds.clamp(FEWEST_ROUNDS, MOST_ROUNDS) {
+        for _ in 0..rounds.clamp(FEWEST_ROUNDS, most_rounds) {
             rust.0.push(timed(&mut self.rust));
             product.0.extend(self.product.as_mut().map(timed));
         }

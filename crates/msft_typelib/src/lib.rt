@@ -1,7 +1,7 @@
 // The exports for C: each reading of a library as a function on numbers and byte slices.
 //
 // A call that needs the header, the offset table or a segment begins with `parse`; one that reads a
-// record, a cursor or a member's words reads the lent bytes alone, which need be no library. A reading of
+// record, a text, a cursor or a member's words reads the lent bytes alone, which need be no library. A reading of
 // one number of at most 32 bits replies it; any other lays its values into the output, at their own
 // widths and little-endian, and replies how many bytes those are. A refusal replies minus its number and
 // writes nothing; an output that is too short is 12, behind all other refusals.
@@ -19,6 +19,7 @@ mod param;
 mod refrecord;
 mod sheets;
 mod tables;
+mod textcheck;
 mod typeinfo;
 mod typeinfos;
 mod types;

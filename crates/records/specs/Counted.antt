@@ -6,6 +6,8 @@ use lib.Dec.{leb}
 use lib.IntN.{ℤ}
 use lib.ListN.{take, drop}
 use Rattle.utf8.specs.Utf8.{utf8}
+use Rattle.utf8.specs.Looked.{checked}
+use Rattle.utf8.specs.declared.TextCheck.{TextCheck}
 use Rattle.records.specs.declared.answer.Place.{Place}
 use Rattle.records.specs.declared.arraydesc.SafeArrayBound.{SafeArrayBound}
 use Rattle.records.specs.Answer.{Answer, value, refused, map, bind}
@@ -38,6 +40,10 @@ textOf s a = bind a (λ p. cond (utf8 (partOf s (value p))) (value p) (refused 9
 
 abbrev pub textAt : List ℕ → ℕ → ℕ → Answer Place
 textAt s at len = textOf s (recordPlace 0 s at len)
+
+-- whether the bytes at a place are text, and how many of them are looked at (document 02, §3)
+abbrev pub checkAt : List ℕ → ℕ → ℕ → Answer TextCheck
+checkAt s at len = map (λ p. checked (partOf s (value p))) (recordPlace 0 s at len)
 
 -- ---- import files
 

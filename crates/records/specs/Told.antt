@@ -2,6 +2,7 @@
 use mathlib.Core.Bool.{Bool}
 use Prim.Native.Nat.{ℕ}
 use lib.IntN.{ℤ}
+use Rattle.utf8.specs.declared.TextCheck.{TextCheck}
 use Rattle.records.specs.Answer.{Answer, value, refused}
 use Rattle.records.specs.declared.answer.Place.{Place}
 use Rattle.records.specs.declared.answer.U8Answer.{U8Answer}
@@ -25,6 +26,8 @@ use Rattle.records.specs.declared.arraydesc.BoundAnswer.{BoundAnswer}
 use Rattle.records.specs.declared.arraydesc.BoundAnswer.the-variants as bound
 use Rattle.records.specs.declared.guidentry.GuidAnswer.{GuidAnswer}
 use Rattle.records.specs.declared.guidentry.GuidAnswer.the-variants as guid
+use Rattle.records.specs.declared.textcheck.TextCheckAnswer.{TextCheckAnswer}
+use Rattle.records.specs.declared.textcheck.TextCheckAnswer.the-variants as check
 use Rattle.records.specs.declared.typeinfo.KindAnswer.{KindAnswer}
 use Rattle.records.specs.declared.typeinfo.KindAnswer.the-variants as kind
 use Rattle.records.specs.declared.types.TypeKind.{TypeKind}
@@ -62,6 +65,10 @@ toldUsize (usize.Refused n) = refused n
 abbrev pub toldPlace : PlaceAnswer → Answer Place
 toldPlace (place.Value x) = value x
 toldPlace (place.Refused n) = refused n
+
+abbrev pub toldTextCheck : TextCheckAnswer → Answer TextCheck
+toldTextCheck (check.Value x) = value x
+toldTextCheck (check.Refused n) = refused n
 
 abbrev pub toldHeld : Held → Answer Unit
 toldHeld held.Inside = value tt

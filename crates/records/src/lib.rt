@@ -12,5 +12,6 @@ pub mod impfile;
 pub mod impinfo;
 pub mod name;
 pub mod refrecord;
+pub mod textcheck;
 pub mod typeinfo;
 pub mod types;

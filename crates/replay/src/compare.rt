@@ -18,6 +18,7 @@ use records::answer::U32Answer;
 use records::answer::UsizeAnswer;
 use records::arraydesc::BoundAnswer;
 use records::guidentry::GuidAnswer;
+use records::textcheck::TextCheckAnswer;
 use records::typeinfo::KindAnswer;
 use records::types::TypeKind;
 
@@ -128,6 +129,16 @@ pub(crate) fn same_kind(recorded: &[u8], before: Progress, answer: KindAnswer) -
     let answer = match answer {
         KindAnswer::Value(kind) => kind_bytes(kind),
         KindAnswer::Refused(n) => refusal(n, 1, 1),
+    };
+    same(recorded, before, answer)
+}
+
+pub(crate) fn same_check(recorded: &[u8], before: Progress, answer: TextCheckAnswer) -> Progress {
+    let answer = match answer {
+        TextCheckAnswer::Value(check) => {
+            numbers(1, if check.valid { 1 } else { 0 }, 8, check.looked as u64)
+        }
+        TextCheckAnswer::Refused(n) => refusal(n, 1, 8),
     };
     same(recorded, before, answer)
 }

@@ -1,7 +1,8 @@
-// The methods of each kind of record, in the order in which their answers are recorded.
+// The methods of each kind of record, in the order in which their answers are recorded; and the check of a text.
 use crate::compare::TEXT_ROOM;
 use crate::compare::same_bool;
 use crate::compare::same_bound;
+use crate::compare::same_check;
 use crate::compare::same_guid;
 use crate::compare::same_i16;
 use crate::compare::same_i32;
@@ -31,15 +32,16 @@ use records::impfile::ImpFile;
 use records::impinfo::ImpInfo;
 use records::name::NameEntry;
 use records::refrecord::RefRecord;
+use records::textcheck;
 use records::typeinfo::KindAnswer;
 use records::typeinfo::TypeInfoEntry;
 use records::types::TypeKind;
 use texts::types;
 
 // How many kinds there are. They are numbered from 0.
-pub const COUNT: u8 = 13;
+pub const COUNT: u8 = 14;
 
-// Compares all answers to a question about a record: its numbers are the record's place and length,
+// Compares all answers to a question about a record or a text: its numbers are the place and the length,
 // and an index for the methods that take one, or the number itself for a conversion from a number.
 // What is left uncompared, of an unknown kind or a number that is too large, counts as a difference at
 // the end.
@@ -63,6 +65,7 @@ pub(crate) fn replay(lent: &[u8], recorded: &[u8], item: Item, before: Progress)
         10 => vt_name(recorded, number, before),
         11 => typekind(recorded, number, before),
         12 => name(lent, recorded, Place { at, len }, number, before),
+        13 => same_check(recorded, before, textcheck::text_check(lent, at, len)),
         _ => before,
     }
 }

@@ -13,7 +13,7 @@ use crate::words;
 use typelib::TypeLib;
 
 // The number behind the last reading's. The first has the number behind the kinds of record.
-pub const END: u8 = 77;
+pub const END: u8 = 78;
 
 const SHEET: u8 = 63;
 

@@ -13,7 +13,7 @@ use Rattle.texts.specs.Text.{fitted, fronted}
 use Rattle.typelib.specs.declared.TypeLib.{TypeLib}
 use Rattle.typelib.specs.Header.{parseOf, parsed}
 
--- ---- a call that reads the library begins with `parse` (one that reads a record or a cursor alone does not)
+-- ---- a call that reads the library begins with `parse` (one that reads a record, a text or a cursor alone does not)
 
 -- the number that `parse` refuses with, or 0
 unfoldable pub refusalOf : List ℕ → ℕ

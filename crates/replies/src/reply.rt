@@ -12,7 +12,6 @@ use records::types::TypeKind;
 use rows::row::Row;
 use typelib::TypeLib;
 use typelib::typeinfos::OffsetAnswer;
-ghost use mathlib.Core.Bool.{cond};
 ghost use mathlib.Core.Path.{_≡_};
 ghost use Prim.Native.Nat.{_^_};
 ghost use lib.IntN.{pos, negℤ};
@@ -91,7 +90,7 @@ pub fn of_bool(a: BoolAnswer) -> i64
     ensures { λ r. ⌜ toZ w64 (ofZ w64 r) ≡ reply (truth (toldBool a)) ⌝ }
 {
     match a {
-        BoolAnswer::Value(b) => bit(b) as i64,
+        BoolAnswer::Value(b) => rows::bit(b) as i64,
         BoolAnswer::Refused(n) => minus(n),
     }
 }
@@ -123,12 +122,6 @@ fn unsigned16(x: i16) -> u16
     } else {
         x as u16
     }
-}
-
-fn bit(b: bool) -> u8
-    ensures { λ r. ⌜ r ≡ cond b 1 0 ⌝ }
-{
-    if b { 1 } else { 0 }
 }
 
 pub fn kind_number(kind: TypeKind) -> u8

@@ -1,9 +1,11 @@
--- The bytes of each kind of value, as a call lays them into its output: numbers at their own widths, little-endian, in
--- document 01's order; a place, a length, an index and a cursor's numbers in eight bytes each. Assumes nothing.
+-- The bytes of each kind of value, as a call lays them into its output: numbers at their own widths, little-endian, in the
+-- papers' order; a place, a length, an index, a count of bytes and a cursor's numbers in eight bytes each. Assumes nothing.
+use mathlib.Core.Bool.{cond}
 use mathlib.Core.List.{List, [], _∷_, _++_}
 use Prim.Native.Nat.{ℕ}
 use mir.Syntax.{w32}
 use mir.Val.{ofZ}
+use Rattle.utf8.specs.declared.TextCheck.{TextCheck}
 use Rattle.records.specs.Answer.{Answer, value, refused}
 use Rattle.records.specs.Types.{vtOf}
 use Rattle.records.specs.declared.answer.Place.{Place}
@@ -40,6 +42,10 @@ size n = eights (n ∷ [])
 
 abbrev pub place : Place → List ℕ
 place p = eights (p .at ∷ p .len ∷ [])
+
+-- whether a text is valid, 1 or 0, and how many of its bytes were looked at
+abbrev pub textCheck : TextCheck → List ℕ
+textCheck c = cond (c .valid) 1 0 ∷ size (c .looked)
 
 abbrev pub bound : SafeArrayBound → List ℕ
 bound b = leBytes 4 (b .elements) ++ leBytes 4 (ofZ w32 (b .lower))

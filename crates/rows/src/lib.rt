@@ -21,6 +21,7 @@ use records::answer::UsizeAnswer;
 use records::arraydesc::BoundAnswer;
 use records::guidentry::GuidAnswer;
 use records::refrecord::RefRecord;
+use records::textcheck::TextCheckAnswer;
 use records::types::TypeDescription;
 use table_cursors::iterators::GuidStep;
 use table_cursors::iterators::GuidsAnswer;
@@ -40,9 +41,10 @@ use typelib::references::IndexAnswer;
 use typelib::references::ResolvedAnswer;
 use typelib::references::ResolvedHreftype;
 use typelib::typeinfos::TypeInfoAnswer;
+ghost use mathlib.Core.Bool.{cond};
 ghost use mathlib.Core.Path.{_≡_};
 ghost use Rattle.records.specs.Answer.{map, value};
-ghost use Rattle.records.specs.Told.{toldBound, toldGuid, toldPlace, toldUsize};
+ghost use Rattle.records.specs.Told.{toldBound, toldGuid, toldPlace, toldTextCheck, toldUsize};
 ghost use Rattle.member_records.specs.Told.{toldVar};
 ghost use Rattle.impltypes.specs.Chain.{toldImplTypeStep, toldImplTypes, toldWalk};
 ghost use Rattle.cursors.specs.Numbers.{yielded};
@@ -51,7 +53,7 @@ ghost use Rattle.constants.specs.Told.{toldConst};
 ghost use Rattle.cursors.specs.Told.{toldFuncStep, toldFuncs, toldParamStep, toldParams, toldVarStep, toldVars};
 ghost use Rattle.table_cursors.specs.Told.{toldGuids, toldGuidStep, toldImpFiles, toldImpFileStep, toldImports, toldImportStep, toldNames, toldNameStep, toldTypeInfos, toldTypeInfoStep};
 ghost use Rattle.rows.specs.Told.{toldRow};
-ghost use Rattle.rows.specs.Values.{bound, chainCursor, chainStep, constant, cursor, description, funcNumbers, guidNumbers, impFileNumbers, importNumbers, nameNumbers, entryStep, pair, paramNumbers, place, reference, size, step, typeinfoNumbers, varNumbers};
+ghost use Rattle.rows.specs.Values.{bound, chainCursor, chainStep, constant, cursor, description, funcNumbers, guidNumbers, impFileNumbers, importNumbers, nameNumbers, entryStep, pair, paramNumbers, place, reference, size, step, textCheck, typeinfoNumbers, varNumbers};
 
 pub fn of_place(a: PlaceAnswer) -> Row
     ensures { λ r. ⌜ toldRow r ≡ map place (toldPlace a) ⌝ }
@@ -114,6 +116,22 @@ pub fn of_size(a: UsizeAnswer) -> Row
         UsizeAnswer::Value(n) => Row::Plain(Longs::One(n as u64)),
         UsizeAnswer::Refused(n) => Row::Refused(n),
     }
+}
+
+pub fn of_text_check(a: TextCheckAnswer) -> Row
+    ensures { λ r. ⌜ toldRow r ≡ map textCheck (toldTextCheck a) ⌝ }
+{
+    match a {
+        TextCheckAnswer::Value(c) => Row::Marked(bit(c.valid), Longs::One(c.looked as u64)),
+        TextCheckAnswer::Refused(n) => Row::Refused(n),
+    }
+}
+
+// A truth, as a reply and a row have it.
+pub fn bit(b: bool) -> u8
+    ensures { λ r. ⌜ r ≡ cond b 1 0 ⌝ }
+{
+    if b { 1 } else { 0 }
 }
 
 pub fn of_index(a: IndexAnswer) -> Row

@@ -21,7 +21,7 @@ pub enum Row {
     Words(u32, u32),
     // A chain's cursor, and a record and its number before it: the next offset has four bytes.
     Chain(Longs, u32, u64),
-    // A code of one byte, and what it announces.
+    // A code of one byte, and what it announces; or a truth, and numbers beside it.
     Marked(u8, Longs),
     Half(u8, u16),
     Word(u8, u32),

@@ -1,9 +1,10 @@
--- UTF-8: the grammar of RFC 3629, section 4, a test of it that goes byte by byte, and how many bytes a character has by that test.
--- `Utf8Laws` shows that they agree. Assumes nothing.
+-- UTF-8: the grammar of RFC 3629, section 4; how many bytes of a text are looked at, by that grammar; and a test that goes byte by
+-- byte. `Utf8Laws` and `LookedLaws` show that they agree. Assumes nothing.
+use mathlib.Core.Path.{_≡_}
 use mathlib.Core.Bool.{Bool, false, cond}
-use mathlib.Core.List.{List, [], _∷_}
-use Prim.Native.Nat.{ℕ, suc, _≤_, _<_}
-use lib.ListN.{length, getD}
+use mathlib.Core.List.{List, [], _∷_, _++_}
+use Prim.Native.Nat.{ℕ, _≤_, _<_}
+use lib.ListN.{length, take}
 use lib.Dec.{leb, ltb, eqb}
 
 -- ---- the grammar
@@ -29,6 +30,19 @@ pub data Text : List ℕ → Type 0 where
   utf8-4-f0 : {a b c d : ℕ} {t : List ℕ} → In 0xf0 0xf0 a → In 0x90 0xbf b → Tail c → Tail d → Text t → Text (a ∷ b ∷ c ∷ d ∷ t)
   utf8-4-f1 : {a b c d : ℕ} {t : List ℕ} → In 0xf1 0xf3 a → Tail b → Tail c → Tail d → Text t → Text (a ∷ b ∷ c ∷ d ∷ t)
   utf8-4-f4 : {a b c d : ℕ} {t : List ℕ} → In 0xf4 0xf4 a → In 0x80 0x8f b → Tail c → Tail d → Text t → Text (a ∷ b ∷ c ∷ d ∷ t)
+
+-- ---- how many bytes are looked at
+
+-- p is the beginning of a valid text
+pub record Begins (p : List ℕ) : Type 0 where
+  pub rest : List ℕ
+  pub text : Text (p ++ rest)
+
+-- Of the bytes s, n are looked at (document 02, §3): the whole length, unless some beginning of s is the beginning of no valid text;
+-- then the length of the shortest such beginning.
+pub data LookedAt (s : List ℕ) (n : ℕ) : Type 0 where
+  whole : n ≡ length s → ((k : ℕ) → Begins (take k s)) → LookedAt s n
+  shortest : n ≤ length s → (Begins (take n s) → ⊥) → ((k : ℕ) → k < n → Begins (take k s)) → LookedAt s n
 
 -- ---- the test
 
@@ -71,22 +85,3 @@ accepts state (b ∷ bs) = cond (eqb (afterByte state b) 8) false (accepts (afte
 -- whether a list of bytes is text in UTF-8
 abbrev pub utf8 : List ℕ → Bool
 utf8 s = accepts 0 s
-
--- ---- one character
-
--- a byte from lo to hi stands in s at `at`
-pub record ByteAt (s : List ℕ) (at lo hi : ℕ) : Type 0 where
-  pub within : at < length s
-  pub byte : In lo hi (getD s at 0)
-
--- How many bytes a character has of which n are read, so that what `state` says may follow, and whose others begin s: 0 if s does
--- not go on so.
-unfoldable pub characterEnd : ℕ → ℕ → List ℕ → ℕ
-characterEnd state n [] = 0
-characterEnd state n (b ∷ bs) =
-    cond (eqb (afterByte state b) 8) 0
-    (cond (eqb (afterByte state b) 0) (suc n) (characterEnd (afterByte state b) (suc n) bs))
-
--- how many bytes the character has that s begins with: 0 if s begins with none
-abbrev pub characterBytes : List ℕ → ℕ
-characterBytes s = characterEnd 0 0 s

@@ -74,7 +74,7 @@ impl Lent {
     }
 
     /// What is wrong with the call's reply at this length of output.
-    fn difference_at(
+    pub fn difference_at(
         &mut self,
         expected: Expected,
         room: usize,

@@ -2,6 +2,7 @@
 //! reply; anything else is a row of values, little-endian and at their own widths, in the output.
 
 use crate::readings::{NOTHING, place_in};
+use crate::text_check::TextCheck;
 use crate::{Guid, SafeArrayBound, TypeKind, VarRecord};
 
 /// What an export answers: a number, the bytes that it writes, or a refusal.
@@ -94,6 +95,12 @@ impl Tell for SafeArrayBound {
             .le(count.to_le_bytes())
             .le(lower.to_le_bytes())
             .answer()
+    }
+}
+
+impl Tell for TextCheck {
+    fn tell(self, _: &[u8]) -> Answer {
+        Row::new().le(self.bytes()).answer()
     }
 }
 

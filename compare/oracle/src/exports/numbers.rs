@@ -14,7 +14,7 @@ pub type Numbers = [usize; 4];
 #[derive(Clone, Copy, Debug, PartialEq, Eq, Hash)]
 pub enum Asks {
     Nothing,
-    /// A record's place and length, and for some an index.
+    /// The place and length of a record or a text, and for some an index.
     Record(Kind),
     Segment,
     Type,

@@ -1,9 +1,11 @@
-//! The readings of records, each given by its place, and the readings that take no library.
+//! The readings of records, each given by its place, the check of a text, given so too, and the readings that take no
+//! library.
 
 use super::answer::{Answer, Tell};
 use super::numbers::{Asks, Numbers};
 use super::{Export, Rust, export, linked};
 use crate::readings::{Kind, NOTHING};
+use crate::text_check::text_check;
 use crate::{
     ArrayDesc, FuncRecord, Guid, GuidEntry, ImpFile, ImpInfo, NameEntry, ParameterInfo, RefRecord,
     TypeInfoEntry, TypeKind, TypeLib, VarRecord, vt_name,
@@ -12,6 +14,7 @@ use crate::{
 pub(super) fn exports() -> Vec<Export> {
     let mut exports = small_records();
     exports.extend(counted_records());
+    exports.extend(texts());
     exports.extend(typeinfos());
     exports.extend(vars());
     exports.extend(funcs());
@@ -123,6 +126,15 @@ fn counted_records() -> Vec<Export> {
         }),
     );
     exports
+}
+
+/// The check of a text. The reference has no such reading: it is document 02's.
+fn texts() -> Vec<Export> {
+    vec![
+        export!(TwoOut msft_text_check, Asks::Record(Kind::TextCheck), Lent, |lib, numbers| {
+            lent_at(lib, numbers).map(text_check).tell(lib.data())
+        }),
+    ]
 }
 
 fn typeinfos() -> Vec<Export> {

@@ -1,5 +1,7 @@
 //! Records made up: plausible ones, and ones at the edges of what the methods read.
 
+use std::collections::BTreeSet;
+
 use crate::random::Random;
 use crate::readings::Kind;
 
@@ -28,6 +30,7 @@ pub fn records(kind: Kind, random: &mut Random) -> Vec<Record> {
         Kind::Var => vars(random),
         Kind::Func => funcs(random),
         Kind::Name => name_entries(random),
+        Kind::TextCheck => texts(random),
         Kind::VtName | Kind::TypeKind => Vec::new(),
     }
 }
@@ -171,7 +174,7 @@ const VALID_NAMES: [&str; 15] = [
 ];
 
 /// Texts that are not UTF-8.
-const INVALID_NAMES: [&[u8]; 29] = [
+pub(super) const INVALID_NAMES: [&[u8]; 29] = [
     // A continuation byte that continues nothing.
     b"\x80",
     b"\xBF",
@@ -220,8 +223,7 @@ const LATER_BYTES: [u8; 12] = [
 /// The names above, names joined from several of them, and names of bytes that nearly make a
 /// character.
 pub fn names(random: &mut Random) -> Vec<Vec<u8>> {
-    let mut names = VALID_NAMES.map(|name| name.as_bytes().to_vec()).to_vec();
-    names.extend(INVALID_NAMES.map(<[u8]>::to_vec));
+    let mut names: Vec<Vec<u8>> = names_at_edges().map(<[u8]>::to_vec).collect();
     for number in 0..80 {
         let mut name = random.one_of(&VALID_NAMES).as_bytes().to_vec();
         if number % 4 == 0 {
@@ -236,6 +238,22 @@ pub fn names(random: &mut Random) -> Vec<Vec<u8>> {
         names.push(name);
     }
     names
+}
+
+fn names_at_edges() -> impl Iterator<Item = &'static [u8]> {
+    VALID_NAMES
+        .map(str::as_bytes)
+        .into_iter()
+        .chain(INVALID_NAMES)
+}
+
+/// Texts to check: the names above, and each of those at the edges also cut at every length.
+fn texts(random: &mut Random) -> Vec<Record> {
+    let beginnings =
+        names_at_edges().flat_map(|name| (0..name.len()).map(|length| &name[..length]));
+    let mut texts: BTreeSet<Vec<u8>> = beginnings.map(<[u8]>::to_vec).collect();
+    texts.extend(names(random));
+    texts.into_iter().map(Record::new).collect()
 }
 
 /// The texts of name entries, and what their numbers are made from.

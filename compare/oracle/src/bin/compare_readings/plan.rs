@@ -6,7 +6,9 @@ use bounded::exports::numbers::{Asks, Words};
 use bounded::exports::pool::Pool;
 use bounded::exports::stepped::MOST_LINKS;
 use bounded::inputs::layout::{self, Layout};
-use bounded::inputs::{Input, Inputs, constants, edges, large, records, table_ends, texts};
+use bounded::inputs::{
+    Input, Inputs, constants, edges, large, records, table_ends, text_bytes, texts,
+};
 use bounded::random::Random;
 use bounded::readings::Kind;
 use bounded::sheet::{MOST_BYTES, MOST_TYPES};
@@ -23,8 +25,12 @@ const ABOUT_OTHER: usize = 1;
 /// How often a chain that comes round is stepped.
 const STEPS_ROUND: usize = 100_000;
 
-/// How many places around a made-up record are asked for.
+/// How many places around a made-up record or a drawn text are asked for.
 const AROUND_RECORD: usize = 3;
+
+/// How many texts are drawn, and the most bytes of one.
+const DRAWN_TEXTS: usize = 3_000;
+const LONGEST_TEXT: usize = 5_000;
 
 /// The lengths of inputs that are noise.
 const NOISE: usize = 400;
@@ -33,6 +39,7 @@ const NOISE: usize = 400;
 const FOR_RECORDS: u64 = u64::MAX;
 const FOR_TEXTS: u64 = u64::MAX - 1;
 const FOR_NOISE: u64 = u64::MAX - 2;
+const FOR_DRAWN_TEXTS: u64 = u64::MAX - 3;
 
 /// Tries everything, and prints what was found.
 pub fn compare(options: &Options) -> ExitCode {
@@ -55,6 +62,7 @@ pub fn compare(options: &Options) -> ExitCode {
         every(&mut run, &input, ABOUT_OTHER);
     }
     made_records(&mut run, &mut inputs.random(FOR_RECORDS));
+    drawn_texts(&mut run, &mut inputs.random(FOR_DRAWN_TEXTS));
     stored_constants(&mut run);
     without_magic(&mut run, &inputs);
     beginnings(&mut run, &inputs);
@@ -139,6 +147,25 @@ fn made_record(run: &mut Run, kind: Kind, head: &[u8], record: &records::Record)
         all.push(whole);
         all
     });
+}
+
+/// Drawn texts, valid and damaged, asked for as a text and as a name: whole, a part, and at places around them.
+fn drawn_texts(run: &mut Run, random: &mut Random) {
+    for _ in 0..DRAWN_TEXTS {
+        let bytes = text_bytes::drawn(LONGEST_TEXT, random);
+        let length = bytes.len();
+        let pool = Pool::new(&bytes);
+        run.ask(&Input::new("a drawn text".into(), bytes), |asks, random| {
+            let (Asks::Record(Kind::TextCheck) | Asks::Record(Kind::Name)) = asks else {
+                return Vec::new();
+            };
+            let at = random.below(length + 1);
+            let part = random.below(length - at + 1);
+            let mut all = pool.drawn(AROUND_RECORD, asks, random);
+            all.extend([[0, length, 0, 0], [at, part, 0, 0]]);
+            all
+        });
+    }
 }
 
 /// A few libraries without their magic, which are none, asked with every set of numbers that the whole

@@ -24,6 +24,11 @@ const TOO_SHORT: u64 = 2;
 /// The export whose rows begin with a constant's code.
 const CONSTANTS: &str = "msft_const_value";
 
+/// The export that checks a text, and what its rows may say: whether the text is valid, and whether it is looked at
+/// whole.
+const TEXT_CHECK: &str = "msft_text_check";
+const CHECKED: [(bool, bool); 3] = [(true, true), (false, true), (false, false)];
+
 /// Values and refusals 9 about bytes that are no library.
 #[derive(Default)]
 struct Alone {
@@ -46,6 +51,8 @@ pub struct Tally {
     lengths: BTreeSet<usize>,
     /// Codes of constants, by whether they are stored.
     codes: BTreeSet<(bool, u16)>,
+    /// What checks of texts said.
+    checked: BTreeSet<(bool, bool)>,
     /// Of a cursor's step: which of its numbers is the count, and the edges that this had where it came to a value.
     counts: Option<(usize, BTreeSet<usize>)>,
 }
@@ -66,6 +73,7 @@ impl Tally {
             alone: export.needs_no_library().then(Alone::default),
             lengths: BTreeSet::new(),
             codes: BTreeSet::new(),
+            checked: BTreeSet::new(),
             counts: match export.asks {
                 Asks::Cursor(cursor) => Some((cursor.count_at(), BTreeSet::new())),
                 _ => None,
@@ -96,6 +104,10 @@ impl Tally {
                     let is_stored = numbers[0] as i32 >= 0;
                     self.codes
                         .insert((is_stored, u16::from_le_bytes([row[0], row[1]])));
+                }
+                if self.name == TEXT_CHECK {
+                    let is_whole = row[1..] == (numbers[1] as u64).to_le_bytes();
+                    self.checked.insert((row[0] == 1, is_whole));
                 }
             }
         }
@@ -132,6 +144,7 @@ impl Tally {
         }
         faults.extend(self.missing_alone());
         faults.extend(self.missing_codes());
+        faults.extend(self.missing_checks());
         faults.extend(self.missing_counts());
         let named = |fault| format!("{}: {fault}", self.name);
         faults.into_iter().map(named).collect()
@@ -186,6 +199,16 @@ impl Tally {
             .chain(stored_codes().map(|code| (true, code)))
             .filter(|code| !self.codes.contains(code))
             .map(|(is_stored, code)| format!("no constant of code {code}, stored: {is_stored}"))
+            .collect()
+    }
+
+    fn missing_checks(&self) -> Vec<String> {
+        if self.name != TEXT_CHECK {
+            return Vec::new();
+        }
+        let missing = CHECKED.iter().filter(|said| !self.checked.contains(said));
+        missing
+            .map(|(valid, whole)| format!("no text valid: {valid}, looked at whole: {whole}"))
             .collect()
     }
 }

@@ -5,7 +5,7 @@ use std::collections::HashMap;
 use crate::enumerate;
 use crate::exports::cursors::param_numbers;
 use crate::exports::numbers::{Asks, Cursor, Numbers, Words};
-use crate::library::{REFERENCE_SEGMENT, TYPE_DESCRIPTOR_SEGMENT};
+use crate::library::{REFERENCE_SEGMENT, STRING_SEGMENT, TYPE_DESCRIPTOR_SEGMENT};
 use crate::readings::{Kind, place_in};
 use crate::{FuncRecord, GuidEntry, ImpInfo, TypeInfoEntry, TypeLib, VarRecord};
 
@@ -18,6 +18,9 @@ pub const SEGMENTS: usize = 15;
 
 /// Size of one entry of the type-descriptor table.
 const DESCRIPTOR_SIZE: usize = 8;
+
+/// The bytes of a string's length, which stands before it.
+const STRING_LENGTH: usize = 2;
 
 /// The numbers found, by what they mean, and the segments; a missing one is of no bytes at 0.
 #[derive(Default)]
@@ -55,6 +58,23 @@ impl Found {
             let text = entry.name().as_bytes();
             let numbers = [place_in(lib.data(), text), text.len(), 0, 0];
             self.add(Asks::Record(Kind::Name), numbers);
+            self.add(Asks::Record(Kind::TextCheck), numbers);
+        }
+        self.texts(lib);
+    }
+
+    /// Texts that need not be UTF-8: the library's own name, the names of import files, and the first string.
+    fn texts(&mut self, lib: &TypeLib) {
+        let files = lib.imp_files().map(|file| file.filename_bytes());
+        let texts = files.chain([lib.name_bytes(lib.name_offset())]);
+        for text in texts.flatten() {
+            let numbers = [place_in(lib.data(), text), text.len(), 0, 0];
+            self.add(Asks::Record(Kind::TextCheck), numbers);
+        }
+        let (at, len) = self.segments[STRING_SEGMENT];
+        if let Some(strings) = len.checked_sub(STRING_LENGTH) {
+            let numbers = [at.wrapping_add(STRING_LENGTH), strings, 0, 0];
+            self.add(Asks::Record(Kind::TextCheck), numbers);
         }
     }
 

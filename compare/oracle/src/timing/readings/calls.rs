@@ -1,6 +1,7 @@
 //! Readings by single calls: names, constants, texts, and the cheapest there are.
 
 use std::hint::black_box;
+use std::str::from_utf8;
 
 use crate::inputs::{Inputs, texts};
 use crate::product::{self, Out};
@@ -10,6 +11,9 @@ use crate::{ConstValue, TypeInfoEntry, TypeLib};
 
 /// How often a cheap reading is called in a round.
 const MANY: usize = 100_000;
+
+/// About how many bytes of one text are checked in a round.
+const BYTES_CHECKED: usize = 2_000_000;
 
 /// A library, and words to ask it with.
 type Asked = (Vec<u8>, Vec<i32>);
@@ -56,6 +60,7 @@ pub fn print() {
         product::constant,
     );
     print_texts();
+    print_checks();
     print_cheap(&asked[0].0);
     print_field(&asked[0].0);
 }
@@ -73,8 +78,7 @@ fn print_texts() {
         ("UTF-8, 60,000 bytes, characters of 4", "\u{1F600}", 15_000),
     ] {
         let library = texts::library(character.repeat(count).as_bytes(), 0);
-        // As many as make some two million bytes.
-        let times = 2_000_000 / (character.len() * count);
+        let times = BYTES_CHECKED / (character.len() * count);
         print_words(
             name,
             &[(library, vec![0; times])],
@@ -82,6 +86,53 @@ fn print_texts() {
             product::string,
         );
     }
+}
+
+/// The check of a text that is lent alone, beside Rust's own.
+fn print_checks() {
+    for (name, character, count) in [
+        ("text check, 12 bytes, ASCII", "a", 12),
+        ("text check, 12 bytes, characters of 2", "\u{E9}", 6),
+        ("text check, 12 bytes, characters of 3", "\u{20AC}", 4),
+        ("text check, 12 bytes, characters of 4", "\u{1F600}", 3),
+        ("text check, 60,000 bytes, ASCII", "a", 60_000),
+        (
+            "text check, 60,000 bytes, characters of 2",
+            "\u{E9}",
+            30_000,
+        ),
+        (
+            "text check, 60,000 bytes, characters of 3",
+            "\u{20AC}",
+            20_000,
+        ),
+        (
+            "text check, 60,000 bytes, characters of 4",
+            "\u{1F600}",
+            15_000,
+        ),
+    ] {
+        print_check(name, character.repeat(count).as_bytes());
+    }
+}
+
+fn print_check(name: &'static str, text: &[u8]) {
+    let times = BYTES_CHECKED / text.len();
+    let case = Case {
+        name,
+        bytes: text.len(),
+        calls: Some(times),
+        rust: Box::new(move || {
+            let length = || from_utf8(black_box(text)).map_or(0, |text| text.len() as u64);
+            (0..times).map(|_| length()).sum()
+        }),
+        product: Some(Box::new(move || {
+            let mut out = Out::default();
+            let mut looked = || product::text_check(black_box(text), 0, text.len(), &mut out);
+            (0..times).map(|_| looked()).sum()
+        })),
+    };
+    case.print();
 }
 
 /// What a call costs that does next to nothing: the parsing, and a field of the header behind it.

@@ -1,5 +1,5 @@
-#include "outside.h"
-#include "spell.h"
+#include "findings.h"
+#include "utf8.h"
 
 #include <inttypes.h>
 #include <stdio.h>
@@ -12,16 +12,34 @@ typedef int64_t reading(const uint8_t *lib, size_t lib_len, int32_t offset, uint
 /* The most bytes that one of these readings writes: those of a reference. */
 enum { MOST_OUT = 34 };
 
-/* A hostile library can lead out of its tables millions of times: so many are told. */
+/* What is found: an offset that leads out of its table, or a text that is not UTF-8. A library in a code page can
+   have hundreds of the second, which must not push out the first: each kind is counted and told by itself. */
+typedef enum kind { OUTSIDE, NOT_UTF8, KINDS } kind;
+
+/* A hostile library can lead out of its tables millions of times: so many of a kind are told. */
 enum { MOST_TOLD = 100 };
 
-/* A pass over the library: the first counts what leads out, the second says where. */
+/* A pass over the library: the first, for KINDS, only counts; one for a kind says where those of that kind are. */
 typedef struct search {
     const library *l;
-    bool says;
-    size_t found;
+    kind says;
+    size_t found[KINDS];
     cell where;
 } search;
+
+/* Whether this pass has something left to say. */
+static bool is_saying(const search *s)
+{
+    return s->says != KINDS && s->found[s->says] < MOST_TOLD;
+}
+
+/* Counts a finding; replies whether this pass says it. */
+static bool counted(search *s, kind of)
+{
+    bool said = s->says == of && is_saying(s);
+    s->found[of]++;
+    return said;
+}
 
 static bool names_something(int64_t field)
 {
@@ -29,12 +47,15 @@ static bool names_something(int64_t field)
 }
 
 /* One finding: `part` and `what` are words for the field. */
+static void say(const search *s, const char *part, const char *what, int64_t offset, const char *is)
+{
+    printf("  %s: %s%s, at offset 0x%lx, is %s\n", s->where.text, part, what, (unsigned long)offset, is);
+}
+
 static void found(search *s, const char *part, const char *what, int64_t offset, const char *is)
 {
-    s->found++;
-    if (s->says && s->found <= MOST_TOLD)
-        printf("  %s: %s%s, at offset 0x%lx, is %s\n", s->where.text, part, what,
-               (unsigned long)offset, is);
+    if (counted(s, OUTSIDE))
+        say(s, part, what, offset, is);
 }
 
 static void look(search *s, const char *part, const char *what, int64_t field, reading *read,
@@ -51,19 +72,25 @@ static void look_at_guid(search *s, const char *part, const char *what, int64_t 
     look(s, part, what, field, msft_guid, "not inside the GUID table and the file");
 }
 
+/* The bytes at an offset of a table; NULL where they are not inside it and the file. */
+static const uint8_t *bytes_in(const library *l, size_t index, int64_t offset, size_t size)
+{
+    uint8_t out[16];
+    if (!names_something(offset) || msft_segment(BYTES(l), index, out, sizeof out) < 0)
+        return NULL;
+    msft_place table = msft_unpack_place(out);
+    size_t at = table.at + (size_t)offset;
+    if (table.len < (size_t)offset + size || l->len < at + size)
+        return NULL;
+    return l->bytes + at;
+}
+
 /* A stored text whose length is below minus 1 is nothing wherever it lies. */
 static bool has_no_length(const library *l, int64_t offset)
 {
     enum { TABLE = 11, HEAD = 6, TEXT = 8 };
-    uint8_t out[16];
-    if (!names_something(offset) || msft_segment(BYTES(l), TABLE, out, sizeof out) < 0)
-        return false;
-    msft_place table = msft_unpack_place(out);
-    size_t at = table.at + (size_t)offset;
-    if (table.len < (size_t)offset + HEAD || l->len < at + HEAD)
-        return false;
-    const uint8_t *head = l->bytes + at;
-    return msft_le(head, 2) == TEXT && msft_i32((int64_t)msft_le(head + 2, 4)) < -1;
+    const uint8_t *head = bytes_in(l, TABLE, offset, HEAD);
+    return head != NULL && msft_le(head, 2) == TEXT && msft_i32((int64_t)msft_le(head + 2, 4)) < -1;
 }
 
 static void look_at_constant(search *s, const char *what, int64_t field)
@@ -72,12 +99,59 @@ static void look_at_constant(search *s, const char *what, int64_t field)
         look(s, "", what, field, msft_const_value, "not inside the table of constants and the file");
 }
 
+/* ---- texts ---- */
+
+/* Names and file names stand in the sheet as often as they are looked at: all together are no longer than that. */
+static void look_at_text(search *s, const char *part, const char *what, int64_t offset, text t)
+{
+    cell is;
+    if (is_utf8(t) || !counted(s, NOT_UTF8))
+        return;
+    clear(&is);
+    put(&is, "not UTF-8: ");
+    put_fault(&is, s->l, t);
+    say(s, part, what, offset, is.text);
+}
+
+static void look_at_name(search *s, int64_t field)
+{
+    text name = name_at(s->l, field);
+    if (name.bytes != NULL)
+        look_at_text(s, "", "its name", field, name);
+    else if (names_something(field))
+        found(s, "", "its name", field, "not inside the name table and the file");
+}
+
+static void look_at_file_name(search *s, const char *what, int64_t offset, msft_place file)
+{
+    uint8_t out[16];
+    int64_t reply = msft_impfile_filename_bytes(BYTES(s->l), MSFT_PLACE(file), out, sizeof out);
+    if (0 <= reply)
+        look_at_text(s, "the file name in the import file of ", what, offset, text_at(s->l, reply, out));
+}
+
+/* The library's help string, two bytes of length and its own. It is in no sheet; but the listing has it only where
+   it is UTF-8. */
+static void look_at_help(search *s)
+{
+    enum { TABLE = 8, HEAD = 2 };
+    int64_t offset = msft_helpstring_offset(BYTES(s->l));
+    const uint8_t *head = bytes_in(s->l, TABLE, offset, HEAD);
+    if (head == NULL)
+        return;
+    text help = {head + HEAD, (size_t)msft_le(head, HEAD)};
+    if (bytes_in(s->l, TABLE, offset, HEAD + help.len) != NULL)
+        look_at_text(s, "", "its help string", offset, help);
+}
+
+/* ---- where ---- */
+
 /* Goes on to a type, a member, a parameter or an interface, and looks at its name; a refusal for `name`
    says that it has none. Replies where the words for what it is part of end; `leave` cuts there. */
 static size_t enter(search *s, const char *what, uint64_t number, int64_t name)
 {
     size_t before = s->where.len;
-    if (s->says) {
+    if (is_saying(s)) {
         text words = name_at(s->l, name);
         put(&s->where, "%s %" PRIu64, what, number);
         if (words.bytes != NULL) {
@@ -85,7 +159,7 @@ static size_t enter(search *s, const char *what, uint64_t number, int64_t name)
             put_quoted(&s->where, words);
         }
     }
-    look(s, "", "its name", name, msft_name_bytes, "not inside the name table and the file");
+    look_at_name(s, name);
     return before;
 }
 
@@ -106,9 +180,11 @@ static void look_at_import(search *s, const char *what, const msft_reference *r)
                      msft_impinfo_guid_offset(BYTES(l), MSFT_PLACE(r->info)));
     look(s, "the import file of ", what, file, msft_imp_file,
          "not inside the table of import files and the file");
-    if (r->has_file)
-        look_at_guid(s, "the GUID in the import file of ", what,
-                     msft_impfile_guid_offset(BYTES(l), MSFT_PLACE(r->file)));
+    if (!r->has_file)
+        return;
+    look_at_guid(s, "the GUID in the import file of ", what,
+                 msft_impfile_guid_offset(BYTES(l), MSFT_PLACE(r->file)));
+    look_at_file_name(s, what, file, r->file);
 }
 
 /* A reference with one of its low two bits set names an import record; any other is no offset into a
@@ -258,26 +334,41 @@ static void look_at_types(search *s)
     }
 }
 
-static size_t outside(const library *l, bool says)
+/* ---- the whole search ---- */
+
+static void search_for(search *s, const library *l, kind says)
 {
-    search s = {l, says, 0, {0, ""}};
-    put(&s.where, "the library");
-    look(&s, "", "its name", msft_name_offset(BYTES(l)), msft_name_bytes,
-         "not inside the name table and the file");
-    look_at_guid(&s, "", "its GUID", msft_lib_guid_offset(BYTES(l)));
-    leave(&s, 0);
-    look_at_types(&s);
-    return s.found;
+    s->l = l;
+    s->says = says;
+    for (int i = 0; i < KINDS; i++)
+        s->found[i] = 0;
+    clear(&s->where);
+    put(&s->where, "the library");
+    look_at_name(s, msft_name_offset(BYTES(l)));
+    look_at_help(s);
+    look_at_guid(s, "", "its GUID", msft_lib_guid_offset(BYTES(l)));
+    leave(s, 0);
+    look_at_types(s);
 }
 
-void print_outside(const library *l)
+static void print_kind(const library *l, kind says, size_t count, const char *head)
 {
-    size_t count = outside(l, false);
+    search s;
     if (count == 0)
         return;
-    printf(count == 1 ? "  %zu reading leads out of its table\n"
-                      : "  %zu readings lead out of their tables\n", count);
-    outside(l, true);
+    printf("  %zu %s\n", count, head);
+    search_for(&s, l, says);
     if (MOST_TOLD < count)
         printf("  and %zu more\n", count - MOST_TOLD);
+}
+
+void print_findings(const library *l)
+{
+    search s;
+    search_for(&s, l, KINDS);
+    print_kind(l, OUTSIDE, s.found[OUTSIDE],
+               s.found[OUTSIDE] == 1 ? "reading leads out of its table" : "readings lead out of their tables");
+    print_kind(l, NOT_UTF8, s.found[NOT_UTF8],
+               s.found[NOT_UTF8] == 1 ? "text is not UTF-8; names in a code page are read as bytes, not as text"
+                                      : "texts are not UTF-8; names in a code page are read as bytes, not as text");
 }
