@@ -156,6 +156,10 @@ of-text n h = rw (lt-ltb n (2 ^ 63) h)
 pub of-no-text : (n : ℕ) → 2 ^ 63 ≤ n → unpacked n ≡ record { valid = false; looked = n - 2 ^ 63 }
 of-no-text n h = rw (le-ltb n (2 ^ 63) h)
 
+first-answer : (b : Bool) (m n : ℕ) → (cond {A = TextCheck} b (record { valid = true; looked = m }) (record { valid = false; looked = n })) .valid ≡ b
+first-answer true m n = refl
+first-answer false m n = refl
+
 -- a check that the test leads to has a number for each of its two cases, and no more than all bytes are looked at
 module _ (s : List ℕ) where
   pub led-to : {r : TextCheck} → checkedFrom 0 0 s ≡ r → r ≡ checked s
@@ -173,6 +177,12 @@ module _ (s : List ℕ) where
       let v : r .valid ≡ utf8 s = ap (λ x. x .valid) q in
       let n : r .looked ≡ lookedAt s = ap (λ x. x .looked) q in
       (v, (rw v (utf8-text s), (n, rw n (looked-at s))))
+
+  -- its first answer alone
+  pub decided : (n : ℕ) → unpacked n ≡ checked s → (ltb n (2 ^ 63) ≡ utf8 s) × (ltb n (2 ^ 63) ≡ true ↔ Text s)
+  decided n e =
+      let v : ltb n (2 ^ 63) ≡ utf8 s = sym (first-answer (ltb n (2 ^ 63)) n (n - 2 ^ 63)) ∙ ap (λ x. x .valid) e in
+      (v, rw v (utf8-text s))
 
   -- and taken
   pub is-checked : (r : TextCheck) → r .valid ≡ utf8 s → r .looked ≡ lookedAt s → r ≡ checked s

@@ -169,11 +169,10 @@ pub fn check(s: &[u8]) -> TextCheck
     }
 }
 
-// Whether `s` is text in UTF-8.
+// Whether `s` is text in UTF-8: the check's first answer.
 pub fn is_utf8(s: &[u8]) -> bool
     ensures { λ r. ⌜ r ≡ utf8 (now (s .entry)) ⌝ }
     ensures { λ r. ⌜ r ≡ true ↔ Text (now (s .entry)) ⌝ }
 {
-    let c = check(&*s);
-    c.valid
+    looked(&*s) < NO_TEXT
 }
