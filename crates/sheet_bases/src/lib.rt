@@ -96,10 +96,6 @@ fn put_link(s: &[u8], lib: &Numbers, link: RefRecord, out: &mut [u8], to: usize)
     ensures { λ r. ⌜ Emits (implTypeEmitted (now (s .entry)) (library (now (lib .entry))) link) to (now (out .entry)) r (now (out .exit)) ⌝ }
 {
     let href = emit::word_at(&*s, link.at, 0x00);
-    let t = if util::bits(href, 0, 2) == 0 {
-        references::put_in_this_file(&*s, lib, href, out, to)
-    } else {
-        references::put_reference(&*s, lib, href, out, to)
-    };
+    let t = references::put_reference(&*s, lib, href, out, to);
     emit::copy_u32(&*s, link.at, 0x04, out, t)
 }

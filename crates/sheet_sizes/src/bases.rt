@@ -62,10 +62,6 @@ fn after_link(s: &[u8], lib: &Numbers, link: RefRecord, to: usize) -> usize
 {
     let href = emit::word_at(s, link.at, 0x00);
     let mut none = [0u8; 0];
-    let t = if util::bits(href, 0, 2) == 0 {
-        references::put_in_this_file(&*s, lib, href, &mut none, to)
-    } else {
-        references::put_reference(&*s, lib, href, &mut none, to)
-    };
+    let t = references::put_reference(&*s, lib, href, &mut none, to);
     crate::ahead(t, 4)
 }

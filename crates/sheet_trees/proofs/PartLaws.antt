@@ -205,53 +205,50 @@ module _ (s : List ℕ) (lib : TypeLib) where
 
 -- ---- references in this file
 
-module _ (s : List ℕ) (count h : ℕ) where
-  pub here-long : limit < length s → value (0 ∷ []) ≡ value (hereBytes s count h)
+module _ (s : List ℕ) (count b c : ℕ) where
+  pub here-long : limit < length s → value (0 ∷ []) ≡ value (hereBytes s count b c)
   unfolding hereBytes
-  here-long l = ap (λ (a : Answer ℕ). value (indexBytes (bitsOf 24 1 h) a)) (lent-long _ _ l)
+  here-long l = ap (λ (a : Answer ℕ). value (indexBytes b a)) (lent-long _ _ l)
 
-  pub here-negative : length s ≤ limit → 0x80000000 ≤ h → value (0 ∷ []) ≡ value (hereBytes s count h)
-  unfolding hereBytes
-  here-negative l k = ap (λ (a : Answer ℕ). value (indexBytes (bitsOf 24 1 h) a)) (lent-fits _ _ (refused 9) l (rw (le-leb 0x80000000 h k)))
-
-  module _ (b c : ℕ) (g : b ≡ h / 2 ^ 24 % 2 ^ 1) (e : c ≡ cleared h) (l : length s ≤ limit) (k : h < 0x80000000) where
-    here-is : (a : Answer ℕ) → a ≡ internalIndex count c → value (indexBytes b a) ≡ value (hereBytes s count h)
+  module _ (l : length s ≤ limit) where
+    here-is : (a : Answer ℕ) → a ≡ internalIndex count c → value (indexBytes b a) ≡ value (hereBytes s count b c)
     unfolding hereBytes
-    here-is a q =
-        let f : a ≡ internalIndex count (cleared h) = q ∙ ap (internalIndex count) e in
-        let i = lent-fits s (cond (negative h) (refused 9) (internalIndex count (cleared h))) a l (rw (lt-leb 0x80000000 h k) f) in
-        rw g (ap (λ (x : Answer ℕ). value (indexBytes (bitsOf 24 1 h) x)) i)
+    here-is a q = ap (λ (x : Answer ℕ). value (indexBytes b x)) (lent-fits s (internalIndex count c) a l q)
 
-    pub here-index : c / 100 < count → value (internalBytes b (c / 100)) ≡ value (hereBytes s count h)
+    pub here-index : c / 100 < count → value (internalBytes b (c / 100)) ≡ value (hereBytes s count b c)
     here-index lt = here-is (value (c / 100)) (index-there count c lt)
 
-    pub here-beyond : count ≤ c / 100 → value (0 ∷ []) ≡ value (hereBytes s count h)
+    pub here-beyond : count ≤ c / 100 → value (0 ∷ []) ≡ value (hereBytes s count b c)
     here-beyond le = here-is (refused 9) (index-beyond count c le)
 
 -- an hreftype whose low two bits are clear is in this file
 module _ (s : List ℕ) (lib : TypeLib) (h : ℕ) where
-  in-this : (b : ℕ) (a : Answer ℕ) → indexBytes b a ≡ referenceBytes lib (referenceFrom s lib b (map here a))
-  unfolding internalBytes referenceBytes referenceFrom reference internal bit
-  in-this b (value i) = refl
-  in-this b (refused n) = refl
+  in-this : (b : ℕ) (a : Answer ℕ) → indexBytes b (lent s a) ≡ referenceBytes lib (referenceFrom s lib b (lent s (map here a)))
+  unfolding lent internalBytes referenceBytes referenceFrom reference internal bit
+  in-this b a = by (ltb limit (length s)) a
+    where
+      by : (x : Bool) (i : Answer ℕ) → indexBytes b (cond x (refused 1) i) ≡ referenceBytes lib (referenceFrom s lib b (cond x (refused 1) (map here i)))
+      by true i = refl
+      by false (value i) = refl
+      by false (refused n) = refl
 
   cleared-low : h % 4 ≡ 0 → cleared h % 4 ≡ 0
   cleared-low z = cond-elim (λ (c : ℕ). c % 4 ≡ 0) (flagSet dispatchBit h) (h - dispatchBit) h (λ e. omega (arith, eqb-true (h / dispatchBit % 2) 1 e)) (λ _. z)
 
-  lent-map : (a : Answer ℕ) → map here (lent s (cond (negative h) (refused 9) a)) ≡ lent s (cond (negative h) (refused 9) (map here a))
-  unfolding lent
-  lent-map a = by (ltb limit (length s)) (negative h)
+  pub in-this-negative : 0x80000000 ≤ h → value (0 ∷ []) ≡ value (encode (reference edition-one (typeCount lib)) (referenceOf s lib h))
+  unfolding lent referenceOf referenceFrom reference
+  in-this-negative k = by (ltb limit (length s)) (negative h) (le-leb 0x80000000 h k)
     where
-      by : (x y : Bool) → map here (cond x (refused 1) (cond y (refused 9) a)) ≡ cond x (refused 1) (cond y (refused 9) (map here a))
-      by true y = refl
-      by false true = refl
-      by false false = refl
+      by : (x y : Bool) → y ≡ true → value (0 ∷ []) ≡ value (encode (reference edition-one (typeCount lib)) (referenceFrom s lib (bitsOf 24 1 h) (cond x (refused 1) (cond y (refused 9) (resolvedAt s lib (cleared h))))))
+      by true y e = refl
+      by false y e = rw e
 
-  pub here-referred : h % 4 ≡ 0 → value (hereBytes s (typeCount lib) h) ≡ value (encode (reference edition-one (typeCount lib)) (referenceOf s lib h))
+  pub in-this-offset : {b c : ℕ} → h < 0x80000000 → h % 4 ≡ 0 → b ≡ h / 2 ^ 24 % 2 ^ 1 → c ≡ cleared h
+      → value (hereBytes s (typeCount lib) b c) ≡ value (encode (reference edition-one (typeCount lib)) (referenceOf s lib h))
   unfolding hereBytes referenceBytes referenceOf
-  here-referred z =
+  in-this-offset {b} {c} k z g e =
       let i = internalIndex (typeCount lib) (cleared h) in
       let r : map here i ≡ resolvedAt s lib (cleared h) = in-this-file s lib (cleared h) (map here i) (cleared-low z) refl in
-      ap value (in-this (bitsOf 24 1 h) (lent s (cond (negative h) (refused 9) i)))
-      ∙ ap (λ (a : Answer Resolved). value (referenceBytes lib (referenceFrom s lib (bitsOf 24 1 h) a)))
-      (lent-map i ∙ ap (λ (a : Answer Resolved). lent s (cond (negative h) (refused 9) a)) r)
+      let q : map here i ≡ cond (negative h) (refused 9) (resolvedAt s lib (cleared h)) = rw (lt-leb 0x80000000 h k) r in
+      rw (g, e) (ap value (in-this (bitsOf 24 1 h) i)
+      ∙ ap (λ (a : Answer Resolved). value (referenceBytes lib (referenceFrom s lib (bitsOf 24 1 h) (lent s a)))) q)

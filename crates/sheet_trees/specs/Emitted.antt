@@ -71,9 +71,9 @@ module _ (s : List ℕ) (lib : TypeLib) where
   abbrev pub referenceEmitted : ℕ → Answer Bytes
   referenceEmitted href = value (encode (reference edition-one (typeCount lib)) (referenceOf s lib href))
 
-  -- one to a typeinfo of this library
-  abbrev pub hereEmitted : ℕ → Answer Bytes
-  hereEmitted href = value (hereBytes s (typeCount lib) href)
+  -- the typeinfo at a byte offset, `bit` being the reference's bit 0x01000000
+  abbrev pub hereEmitted : ℕ → ℕ → Answer Bytes
+  hereEmitted bit offset = value (hereBytes s (typeCount lib) bit offset)
 
   -- what one comes to, `bit` being its bit 0x01000000
   abbrev pub resolvedEmitted : ℕ → ResolvedHreftype → Answer Bytes

@@ -1,7 +1,7 @@
 -- The bytes of the parts that a record's numbers name, as the emitters write them. `PartLaws` and `TreeLaws` (of proofs/) prove that
 -- they are those of the formats of `description`. Assumes nothing.
 use mathlib.Core.Path.{_≡_}
-use mathlib.Core.Bool.{Bool, cond}
+use mathlib.Core.Bool.{Bool}
 use mathlib.Core.Option.{Option, some, none}
 use mathlib.Core.List.{List, [], _∷_, _++_}
 use Prim.Native.Nat.{ℕ, _+_}
@@ -16,8 +16,8 @@ use Rattle.records.specs.Layout.{sizeOf, arrayDesc}
 use Rattle.records.specs.Record.{bitsOf}
 use Rattle.typelib.specs.declared.TypeLib.{TypeLib}
 use Rattle.typelib.specs.Header.{typeCount}
-use Rattle.typelib.specs.Tables.{lent, negative}
-use Rattle.typelib.specs.References.{internalIndex, cleared}
+use Rattle.typelib.specs.Tables.{lent}
+use Rattle.typelib.specs.References.{internalIndex}
 use Rattle.description.specs.Format.{encode, opt, joined, leBytes}
 use Rattle.description.specs.Description.{Bytes, Own, Import, Reference}
 use Rattle.description.specs.Description.Reference.{imported}
@@ -47,9 +47,9 @@ abbrev pub indexBytes : ℕ → Answer ℕ → Bytes
 indexBytes bit (value index) = internalBytes bit index
 indexBytes bit (refused n) = 0 ∷ []
 
--- the reference of an hreftype to one of this library's `count` typeinfos
-unfoldable pub hereBytes : List ℕ → ℕ → ℕ → Bytes
-hereBytes s count h = indexBytes (bitsOf 24 1 h) (lent s (cond (negative h) (refused 9) (internalIndex count (cleared h))))
+-- the typeinfo at a byte offset, of a library of `count`
+unfoldable pub hereBytes : List ℕ → ℕ → ℕ → ℕ → Bytes
+hereBytes s count bit offset = indexBytes bit (lent s (internalIndex count offset))
 
 unfoldable pub ownBytes : (b : Bool) → Own b → Bytes
 ownBytes b x = encode (own b) x

@@ -12,6 +12,8 @@ use typelib::references::ResolvedAnswer;
 use typelib::references::ResolvedHreftype;
 use typelib::tables;
 use util::NEGATIVE;
+ghost use mathlib.Core.Path.{_≡_};
+ghost use Prim.Native.Nat.{_%_};
 ghost use Rattle.records.specs.Answer.{value};
 ghost use Rattle.records.specs.Told.{toldPlace};
 ghost use Rattle.sheet_trees.specs.Parts.{internalBytes};
@@ -19,10 +21,13 @@ ghost use Rattle.emit.specs.Emit.{Emits};
 ghost use Rattle.sheet_trees.specs.Emitted.{fileEmitted, hereEmitted, importEmitted, optFileEmitted, ownEmitted, referenceEmitted, resolvedEmitted};
 ghost use Rattle.typelib.specs.Header.{library};
 
-// The reference of an hreftype.
+// The reference of an hreftype. (Most are to this library's own typeinfos, and need no look at a table.)
 pub fn put_reference(s: &[u8], lib: &Numbers, href: u32, out: &mut [u8], to: usize) -> usize
     ensures { λ r. ⌜ Emits (referenceEmitted (now (s .entry)) (library (now (lib .entry))) href) to (now (out .entry)) r (now (out .exit)) ⌝ }
 {
+    if util::bits(href, 0, 2) == 0 {
+        return put_in_this_file(&*s, lib, href, out, to);
+    }
     let bit = util::bits(href, 24, 1);
     match typelib::references::resolve_at(lib, &*s, href) {
         ResolvedAnswer::Value(r) => put_resolved(&*s, lib, bit, r, out, to),
@@ -30,19 +35,33 @@ pub fn put_reference(s: &[u8], lib: &Numbers, href: u32, out: &mut [u8], to: usi
     }
 }
 
-// The reference of an hreftype to one of this library's typeinfos, as one is whose low two bits are clear. (Most
-// are. A caller that tests for them first saves the way through the tables.)
-pub fn put_in_this_file(s: &[u8], lib: &Numbers, href: u32, out: &mut [u8], to: usize) -> usize
-    ensures { λ r. ⌜ Emits (hereEmitted (now (s .entry)) (library (now (lib .entry))) href) to (now (out .entry)) r (now (out .exit)) ⌝ }
+// The same of one in this library, as one is whose low two bits are clear.
+fn put_in_this_file(s: &[u8], lib: &Numbers, href: u32, out: &mut [u8], to: usize) -> usize
+    requires { ⌜ href % 4 ≡ 0 ⌝ }
+    ensures { λ r. ⌜ Emits (referenceEmitted (now (s .entry)) (library (now (lib .entry))) href) to (now (out .entry)) r (now (out .exit)) ⌝ }
 {
-    if LIMIT < s.len() {
-        return emit::put_u8(out, to, 0);
-    }
     if NEGATIVE <= href {
         return emit::put_u8(out, to, 0);
     }
     let bit = util::bits(href, 24, 1);
     let offset = TypeInfoOffset(typelib::references::without_dispatch(href));
+    put_here(&*s, lib, bit, offset, out, to)
+}
+
+// The typeinfo at an offset, by its index; nothing where the library has not so many.
+fn put_here(
+    s: &[u8],
+    lib: &Numbers,
+    bit: u32,
+    offset: TypeInfoOffset,
+    out: &mut [u8],
+    to: usize,
+) -> usize
+    ensures { λ r. ⌜ Emits (hereEmitted (now (s .entry)) (library (now (lib .entry))) bit (offset .0)) to (now (out .entry)) r (now (out .exit)) ⌝ }
+{
+    if LIMIT < s.len() {
+        return emit::put_u8(out, to, 0);
+    }
     let index = typelib::references::index_of(offset);
     if index.0 < tables::count(lib) as usize {
         put_internal(bit, index, out, to)

@@ -153,18 +153,12 @@ fn put_base(vt: u16, out: &mut [u8], to: usize) -> usize
     emit::put_le(out, to, 1 + 256 * (vt as u64), 3)
 }
 
-// A reference. (One in this library, as most are, is emitted without a look at a table.)
 fn put_user(s: &[u8], lib: &Numbers, href: u32, out: &mut [u8], to: usize) -> Level
     ensures { λ r. ⌜ HeadPut (userBytes (now (s .entry)) (library (now (lib .entry))) href) none to (now (out .entry)) r (now (out .exit)) ⌝ }
 {
     let t = emit::put_u8(out, to, 5);
-    let end = if util::bits(href, 0, 2) == 0 {
-        references::put_in_this_file(&*s, lib, href, out, t)
-    } else {
-        references::put_reference(&*s, lib, href, out, t)
-    };
     Level {
-        to: end,
+        to: references::put_reference(&*s, lib, href, out, t),
         inner: Inner::Nothing,
     }
 }

@@ -8,6 +8,18 @@ use Rattle.sheet_trees.proofs.references.put_reference.Tie as tie
 bits-requires : tie.Need-bits-requires
 bits-requires c κs = search needs
 
+put-in-this-file-requires : tie.Need-put-in-this-file-requires
+put-in-this-file-requires c κs = search needs
+
+same-length : tie.Need-same-length
+same-length c = search needs
+
+returns : tie.Need-returns
+returns c = search needs
+
+bits-requires-2 : tie.Need-bits-requires-2
+bits-requires-2 c κs = search needs
+
 resolve-at-requires : tie.Need-resolve-at-requires
 resolve-at-requires c κs = search needs
 
@@ -23,29 +35,33 @@ enum-told c = search needs
 put-u8-requires : tie.Need-put-u8-requires
 put-u8-requires c κs = search needs
 
-same-length : tie.Need-same-length
-same-length c = search needs
-
-returns : tie.Need-returns
-returns c = known (reference-some _ (library (c .before .before .before .before .before .before .before .before .before .before .before .args .lib .now)) _ (c .before .before .before .before .before .before .before .resolve-at .ensures) (c .before .before .before .before .before .before .before .before .bits .ensures) (c .before .before .before .before .before .r .given .1)) (c .before .before .put-resolved .ensures)
-
 same-length-2 : tie.Need-same-length-2
 same-length-2 c = search needs
 
 returns-2 : tie.Need-returns-2
-returns-2 c = known (reference-none _ (library (c .before .before .before .before .before .before .before .before .before .before .args .lib .now)) _ (c .before .before .before .before .before .before .resolve-at .ensures) (c .before .before .before .before .enum-told .given .1)) (c .before .before .put-u8 .ensures)
+returns-2 c = known (reference-some _ (library (c .before .before .before .before .before .before .before .before .before .before .before .before .before .args .lib .now)) _ (c .before .before .before .before .before .before .before .resolve-at .ensures) (c .before .before .before .before .before .before .before .before .bits2 .ensures) (c .before .before .before .before .before .r .given .1)) (c .before .before .put-resolved .ensures)
+
+same-length-3 : tie.Need-same-length-3
+same-length-3 c = search needs
+
+returns-3 : tie.Need-returns-3
+returns-3 c = known (reference-none _ (library (c .before .before .before .before .before .before .before .before .before .before .before .before .args .lib .now)) _ (c .before .before .before .before .before .before .resolve-at .ensures) (c .before .before .before .before .enum-told .given .1)) (c .before .before .put-u8 .ensures)
 
 pub put-reference-spec : {M : Type 1} → statement M
 put-reference-spec =
     tie.close
     (tie.spec
     bits-requires
+    put-in-this-file-requires
+    same-length
+    returns
+    bits-requires-2
     resolve-at-requires
     enum-known-r
     put-resolved-requires
     enum-told
     put-u8-requires
-    same-length
-    returns
     same-length-2
-    returns-2)
+    returns-2
+    same-length-3
+    returns-3)
