@@ -89,7 +89,10 @@ static inline const char *msft_refusal_word(int64_t reply)
 
 /* ---- the sheet (its call needs some 150 KB of stack) ---- */
 
-/* The library's sheet. Writes it whole; -1 to -8, -10 to -13. */
+/* The library's sheet. Writes it whole; -1 to -8, -10 to -13. Two sheets are equal exactly if the two
+   libraries have the same description. A sheet that was stored when a reference to no typeinfo (see
+   msft_misplaced_offset) was still laid out as nothing or as a typeinfo's index has to be made again
+   from its library: no call can tell it from another or set it right. */
 int64_t msft_sheet(const uint8_t *lib, size_t lib_len, uint8_t *out, size_t out_len);
 
 /* ---- guid: a GUID, by its place ---- */
@@ -668,6 +671,13 @@ int64_t msft_resolve_hreftype(
    to -5, -9, -12. */
 int64_t msft_resolve_hreftype_full(
     const uint8_t *lib, size_t lib_len, int32_t hreftype, uint8_t *out, size_t out_len);
+
+/* The offset of a reference to no typeinfo. Compilers place typeinfos every 100 bytes; so that is an
+   hreftype that is not negative, whose low two bits are clear, and which is no multiple of 100 without
+   the bit 0x01000000. The sheet has it as such (code 3); the two calls above do not ask for it: they
+   divide by 100, as the Rust does, and have typeinfo 0 for 4. Takes no library. Replies a u32, the
+   hreftype without that bit; -9 for every other hreftype. */
+int64_t msft_misplaced_offset(int32_t hreftype);
 
 /* The constant that a record's word gives: inline where the word is negative, else at that
    offset of the table, where it ends inside segment 11. Writes a constant (2 to 19 bytes); -1 to

@@ -3,12 +3,17 @@
 use std::collections::BTreeMap;
 use std::fmt::{self, Debug, Display};
 
+use crate::sheet::places::{Field, Place};
 use crate::sheet::{self, Watch, refusal};
 
 /// Tree codes, reference codes, and the kinds of a type's low four bits.
 const TREE_CODES: u8 = 6;
-const REFERENCE_CODES: u8 = 3;
+const REFERENCE_CODES: u8 = 4;
 const KINDS: u8 = 16;
+
+/// The code of a reference that hits no typeinfo, and its bit bytes.
+const MISPLACED: u8 = 3;
+const MARKS: [u8; 2] = [0, 1];
 
 /// The constant codes that an inline constant can give.
 pub const INLINE_CODES: [u16; 14] = [0, 1, 2, 3, 10, 11, 16, 17, 18, 19, 22, 23, 24, 25];
@@ -44,12 +49,18 @@ pub struct Coverage {
 struct Parts {
     trees: Counts<u8>,
     references: Counts<u8>,
+    /// References that hit no typeinfo, by their place and their bit.
+    misplaced: Counts<(Place, u8)>,
     kinds: Counts<u8>,
     inline: Counts<u16>,
     stored: Counts<u16>,
     stored_raw: Counts<u16>,
     there: Counts<&'static str>,
     not_there: Counts<&'static str>,
+    /// The field that is being laid out, and the codes of its tree so far: the last, and the one before.
+    field: Option<Field>,
+    innermost: Option<u8>,
+    around: Option<u8>,
 }
 
 impl Coverage {
@@ -68,12 +79,13 @@ impl Coverage {
         reply
     }
 
-    /// What document 01 names and the run did not reach.
+    /// What the documents name and the run did not reach.
     pub fn missing(&self) -> Vec<String> {
         let parts = &self.made_of;
         let mut missing = not_in("refusal", refusal::ALL, &self.refusals);
         missing.extend(not_in("tree", 0..TREE_CODES, &parts.trees));
         missing.extend(not_in("reference", 0..REFERENCE_CODES, &parts.references));
+        missing.extend(self.missing_misplaced());
         missing.extend(not_in("kind", 0..KINDS, &parts.kinds));
         missing.extend(not_in("inline constant", INLINE_CODES, &parts.inline));
         missing.extend(not_in("stored constant", stored_codes(), &parts.stored));
@@ -84,6 +96,20 @@ impl Coverage {
         }
         missing
     }
+
+    /// The places in which no reference stood that hits no typeinfo, by its bit.
+    pub fn missing_misplaced(&self) -> Vec<String> {
+        let wanted = Place::all().flat_map(|place| MARKS.map(|mark| (place, mark)));
+        wanted
+            .filter(|wanted| !self.made_of.misplaced.contains_key(wanted))
+            .map(|wanted| format!("reference to no typeinfo: {}", placed(&wanted)))
+            .collect()
+    }
+}
+
+/// A reference's place and bit, in words.
+fn placed((place, mark): &(Place, u8)) -> String {
+    format!("{place} (bit {mark})")
 }
 
 impl Display for Coverage {
@@ -94,6 +120,10 @@ impl Display for Coverage {
         writeln!(f, "kinds: {}", listed(&parts.kinds))?;
         writeln!(f, "tree codes: {}", listed(&parts.trees))?;
         writeln!(f, "reference codes: {}", listed(&parts.references))?;
+        let misplaced = parts.misplaced.iter();
+        let misplaced = misplaced.map(|(what, times)| (placed(what), *times));
+        let misplaced = listed(&misplaced.collect());
+        writeln!(f, "references to no typeinfo: {misplaced}")?;
         writeln!(f, "inline constants: {}", listed(&parts.inline))?;
         writeln!(f, "stored constants: {}", listed(&parts.stored))?;
         let times: u64 = parts.stored_raw.values().sum();
@@ -108,6 +138,7 @@ impl Parts {
     fn add(&mut self, other: Parts) {
         add_all(&mut self.trees, other.trees);
         add_all(&mut self.references, other.references);
+        add_all(&mut self.misplaced, other.misplaced);
         add_all(&mut self.kinds, other.kinds);
         add_all(&mut self.inline, other.inline);
         add_all(&mut self.stored, other.stored);
@@ -118,8 +149,15 @@ impl Parts {
 }
 
 impl Watch for Parts {
+    fn field(&mut self, field: Field) {
+        self.field = Some(field);
+        self.innermost = None;
+        self.around = None;
+    }
+
     fn tree(&mut self, code: u8) {
         add_one(&mut self.trees, code);
+        self.around = self.innermost.replace(code);
     }
 
     fn constant(&mut self, code: u16, stored: bool) {
@@ -132,8 +170,13 @@ impl Watch for Parts {
         add_one(counts, code);
     }
 
-    fn reference(&mut self, code: u8) {
+    fn reference(&mut self, code: u8, mark: u8) {
         add_one(&mut self.references, code);
+        if code == MISPLACED {
+            let field = self.field.expect("a reference stands in a field");
+            let around = self.around;
+            add_one(&mut self.misplaced, (Place { field, around }, mark));
+        }
     }
 
     fn base(&mut self, kind: u8) {
@@ -177,4 +220,29 @@ fn not_in<T: Ord + Debug>(
         .filter(|what| !counts.contains_key(what))
         .map(|what| format!("{word} {what:?}"))
         .collect()
+}
+
+#[cfg(test)]
+mod tests {
+    use super::{Coverage, MARKS, placed};
+    use crate::inputs::misplaced;
+    use crate::sheet::MOST_BYTES;
+    use crate::sheet::places::Place;
+
+    /// Each of the libraries has one reference: without it, its own place is what is missing.
+    #[test]
+    fn a_place_that_no_misplaced_reference_stood_in_is_missing() {
+        let wanted = Place::all().flat_map(|place| MARKS.map(|mark| (place, mark)));
+        for (left_out, wanted) in wanted.enumerate() {
+            let mut coverage = Coverage::default();
+            for (number, input) in misplaced::places().enumerate() {
+                if number != left_out {
+                    let sheet = coverage.sheet(&input.bytes, MOST_BYTES);
+                    sheet.expect("it is read");
+                }
+            }
+            let missing = format!("reference to no typeinfo: {}", placed(&wanted));
+            assert_eq!(coverage.missing_misplaced(), [missing]);
+        }
+    }
 }

@@ -1,5 +1,5 @@
 //! Inputs for comparing: real libraries, their beginnings, damaged ones, made-up ones, and
-//! the edges of document 01. Each has a number, and the same seed always gives the same inputs.
+//! the edges of the documents. Each has a number, and the same seed always gives the same inputs.
 
 pub mod constants;
 pub mod damage;
@@ -7,6 +7,7 @@ pub mod edges;
 pub mod large;
 pub mod layout;
 pub mod made;
+pub mod misplaced;
 pub mod records;
 pub mod table_ends;
 pub mod text_bytes;
@@ -130,18 +131,24 @@ impl Inputs {
         let mut random = self.random(number);
         match random.below(100) {
             0..50 => Input::new("made up".into(), made::library(&mut random)),
-            50..60 => {
+            50..58 => {
                 let mut bytes = made::library(&mut random);
                 for _ in 0..=random.below(3) {
                     damage::change(&mut random, &mut bytes);
                 }
                 Input::new("made up, then damaged".into(), bytes)
             }
-            60..64 => {
+            58..62 => {
                 let victim = self.victim(&mut random);
                 let length = random.below(victim.bytes.len());
                 let name = format!("{length} bytes of {}", victim.name);
                 Input::new(name, victim.bytes[..length].to_vec())
+            }
+            62..66 => misplaced::any(&mut random),
+            66..74 => {
+                let victim = self.victim(&mut random);
+                let name = format!("{}, other references", victim.name);
+                Input::new(name, victim.with_other_references(&mut random))
             }
             _ => {
                 let victim = self.victim(&mut random);

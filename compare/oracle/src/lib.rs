@@ -1,8 +1,8 @@
 //! The reference reader, built from its own files, and what this project asks of it.
 //!
 //! The reference's crate root and its `Error` type are not among the given files. This file stands
-//! in for both. `readings`, `library`, `enumerate`, `sheet`, `text_check` and what feeds them are ours; they are modules
-//! of the same crate because the constructors of the reference's records are `pub(crate)`.
+//! in for both. `readings`, `library`, `enumerate`, `sheet`, `text_check`, `misplaced` and what feeds them are ours; they are
+//! modules of the same crate because the constructors of the reference's records are `pub(crate)`.
 //!
 //! It is compiled twice: as `msft_typelib` over the reference's files as they are, and as `bounded` over a copy
 //! that is kept to its tables, which `build/kept.rs` makes.
@@ -20,6 +20,7 @@ pub mod enumerate;
 pub mod exports;
 pub mod inputs;
 pub mod library;
+pub mod misplaced;
 #[cfg(product)]
 pub mod product;
 pub mod random;

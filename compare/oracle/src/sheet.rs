@@ -1,16 +1,20 @@
-//! The sheet of a library: its description laid out as document 01 says, from the reference's own
-//! readings.
+//! The sheet of a library: its description laid out as document 01 says, with document 02's code 3 for a reference that
+//! hits no typeinfo, from the reference's own readings.
 //!
 //! Nothing here follows the product. The two meet only in their bytes, which `compare_sheets`
 //! compares and `bench_sheets` times; so this is also written as one would write it for speed: one
 //! pass into a vector, with lengths and counts filled in behind.
 
+pub mod places;
+
 use std::mem;
 
+use crate::misplaced::misplaced_offset;
 use crate::{
     ArrayDesc, ConstValue, Error, FuncRecord, Guid, ImpFile, ImpInfo, ParameterInfo,
     ResolvedHreftype, TypeDescription, TypeInfoEntry, TypeKind, TypeLib, VarRecord,
 };
+use places::{C_ARRAY, Field, POINTER, SAFE_ARRAY};
 
 #[cfg(test)]
 mod tests;
@@ -58,12 +62,14 @@ const IMPORT_HAS_GUID: u32 = 0x1_0000;
 /// Hears what a sheet is made of, so that a run can tell what its inputs covered. Asking nobody,
 /// `()`, costs nothing.
 pub trait Watch {
+    /// A field that is a reference or a tree begins.
+    fn field(&mut self, _field: Field) {}
     /// A description of a tree, by its code.
     fn tree(&mut self, _code: u8) {}
     /// A constant that was read, by its code, and whether it was stored or inline.
     fn constant(&mut self, _code: u16, _stored: bool) {}
-    /// A reference, by its code.
-    fn reference(&mut self, _code: u8) {}
+    /// A reference, by its code, and its bit 0x01000000.
+    fn reference(&mut self, _code: u8, _mark: u8) {}
     /// A type, by the low four bits that decide its base.
     fn base(&mut self, _kind: u8) {}
     /// An opt field or a text, by what it would hold, and whether it holds it.
@@ -354,10 +360,12 @@ impl<'a, W: Watch> Writer<'_, 'a, '_, W> {
 
     fn base(&mut self, typeinfo: &TypeInfoEntry) -> Result<(), u8> {
         self.watch.base(typeinfo.typekind_raw() as u8 & 0x0F);
+        let base = typeinfo.datatype1();
         match typeinfo.typekind() {
             TypeKind::CoClass => self.implemented(typeinfo)?,
-            TypeKind::Interface | TypeKind::Dispatch => self.reference(typeinfo.datatype1()),
-            TypeKind::Alias => self.tree(typeinfo.datatype1())?,
+            TypeKind::Interface => self.reference_field(Field::InterfaceBase, base),
+            TypeKind::Dispatch => self.reference_field(Field::DispatchBase, base),
+            TypeKind::Alias => self.tree(Field::Alias, base)?,
             _ => {}
         }
         Ok(())
@@ -373,7 +381,7 @@ impl<'a, W: Watch> Writer<'_, 'a, '_, W> {
             chain.step(record.onext())?;
             count += 1;
             if !self.is_full {
-                self.reference(record.reftype());
+                self.reference_field(Field::ChainRecord, record.reftype());
                 self.put(record.flags().to_le_bytes());
             }
         }
@@ -396,7 +404,7 @@ impl<'a, W: Watch> Writer<'_, 'a, '_, W> {
     }
 
     fn func(&mut self, func: &FuncRecord<'a>) -> Result<(), u8> {
-        self.tree(func.datatype())?;
+        self.tree(Field::Result, func.datatype())?;
         self.put(func.flags().to_le_bytes());
         self.put(func.vtable_offset().to_le_bytes());
         self.put(func.fkccic().to_le_bytes());
@@ -414,7 +422,7 @@ impl<'a, W: Watch> Writer<'_, 'a, '_, W> {
     }
 
     fn param(&mut self, func: &FuncRecord, index: usize, param: &ParameterInfo) -> Result<(), u8> {
-        self.tree(param.datatype())?;
+        self.tree(Field::Parameter, param.datatype())?;
         self.name(Some(param.name_offset()));
         self.put(param.flags().to_le_bytes());
         if param.flags() & HAS_DEFAULT == 0 {
@@ -440,7 +448,7 @@ impl<'a, W: Watch> Writer<'_, 'a, '_, W> {
     }
 
     fn var(&mut self, var: &VarRecord) -> Result<(), u8> {
-        self.tree(var.datatype())?;
+        self.tree(Field::Variable, var.datatype())?;
         self.put(var.flags().to_le_bytes());
         self.put(var.varkind().to_le_bytes());
         if var.varkind() == CONSTANT_VARIABLE {
@@ -452,19 +460,20 @@ impl<'a, W: Watch> Writer<'_, 'a, '_, W> {
     }
 
     /// A tree has one branch, so it is a list of descriptions from the outermost inward.
-    fn tree(&mut self, mut datatype: i32) -> Result<(), u8> {
+    fn tree(&mut self, field: Field, mut datatype: i32) -> Result<(), u8> {
+        self.watch.field(field);
         for _ in 0..MOST_NESTED {
             datatype = match self.lib.type_description(datatype) {
                 Some(TypeDescription::Pointer(inner)) => {
-                    self.code(2);
+                    self.code(POINTER);
                     inner
                 }
                 Some(TypeDescription::SafeArray(inner)) => {
-                    self.code(3);
+                    self.code(SAFE_ARRAY);
                     inner
                 }
                 Some(TypeDescription::CArray(array)) if has_all_bounds(&array) => {
-                    self.code(4);
+                    self.code(C_ARRAY);
                     self.bounds(&array);
                     array.element_type()
                 }
@@ -509,20 +518,33 @@ impl<'a, W: Watch> Writer<'_, 'a, '_, W> {
         }
     }
 
+    /// A reference that is a field of its own, and not the end of a tree.
+    fn reference_field(&mut self, field: Field, reference: i32) {
+        self.watch.field(field);
+        self.reference(reference);
+    }
+
     fn reference(&mut self, reference: i32) {
         let mark = u8::from(reference as u32 & TypeLib::DISPATCH_HREF_OFFSET != 0);
+        // A reference that hits no typeinfo is told before the range of its index is looked at.
+        if let Some(offset) = misplaced_offset(reference) {
+            self.watch.reference(3, mark);
+            self.put([3, mark]);
+            self.put(offset.to_le_bytes());
+            return;
+        }
         match self.lib.resolve_hreftype_full(reference) {
             None => {
-                self.watch.reference(0);
+                self.watch.reference(0, mark);
                 self.put([0]);
             }
             Some(ResolvedHreftype::Internal(index)) => {
-                self.watch.reference(1);
+                self.watch.reference(1, mark);
                 self.put([1, mark]);
                 self.put((index as u16).to_le_bytes());
             }
             Some(ResolvedHreftype::External { imp_info, imp_file }) => {
-                self.watch.reference(2);
+                self.watch.reference(2, mark);
                 self.put([2, mark]);
                 self.import(&imp_info, imp_file);
             }

@@ -2,25 +2,26 @@
 use mathlib.Core.Path.{refl}
 use mathlib.Core.Bool.{Bool, true, false}
 use mathlib.Core.List.{List}
-use Prim.Native.Nat.{ℕ, _+_, _/_, _^_, _≤_, _<_}
+use Prim.Native.Nat.{ℕ, _+_, _-_, _/_, _^_, _≤_, _<_}
 use native.Mathlib.Omega.{arith}
-use Rattle.util.specs.Read.{le, le-lt}
+use Rattle.util.specs.Read.{le, le-lt, cond-elim}
 use Rattle.records.specs.declared.answer.Place.{Place}
 use Rattle.records.specs.Answer.{Answer, value, refused}
 use Rattle.records.specs.Counted.{fileNameBytes}
 use Rattle.records.specs.Layout.{impFile, impInfo}
-use Rattle.records.specs.Record.{fieldPlace, fieldAt, bitsOf, partOf}
+use Rattle.records.specs.Record.{fieldPlace, fieldAt, bitsOf, flagSet, partOf}
 use Rattle.records.specs.RecordLaws.{lies}
 use Rattle.typelib.specs.declared.TypeLib.{TypeLib}
 use Rattle.typelib.specs.Header.{typeCount}
-use Rattle.typelib.specs.References.{Resolved, hrefResolved}
+use Rattle.typelib.specs.References.{Resolved, dispatchBit, cleared, hrefResolved}
 use Rattle.typelib.specs.References.{internal as here, external}
 use Rattle.description.specs.Format.{Fits, opt}
 use Rattle.description.specs.Description.{ownIsGuid}
 use Rattle.description.specs.Sheet.{Edition, file, own, import, reference}
-use Rattle.description.specs.Fit.{opt-fits, bit-fits, unresolved-fits, internal-fits, imported-fits}
+use Rattle.description.specs.Fit.{opt-fits, bit-fits, unresolved-fits, internal-fits, imported-fits, misplaced-fits}
 use Rattle.describe.specs.Values.{Octets, fieldOf}
-use Rattle.describe.specs.References.{fileWith, fileAt, fileOf, ownOf, importOf, referenceFrom, referenceOf}
+use Rattle.describe.specs.References.{fileWith, fileAt, fileOf, ownOf, importOf, isMisplaced, referenceFrom, referenceOf}
+use Rattle.describe.specs.MisplacedLaws.{is-misplaced}
 use Rattle.describe.specs.FieldLaws.{number-lt, field-lt}
 use Rattle.describe.specs.Answers.{IfValue, told, anything, answers-bind, answers-map, answers-value, if-found}
 use Rattle.describe.specs.Cases.{resolved-cases}
@@ -88,6 +89,14 @@ module _ (s : List ℕ) (octets : Octets s) where
           imported-fits e (typeCount lib) (importOf s lib bit (p .at) a) (import-fits bit (p .at) a h)
       from-fits bit (refused n) h k = unresolved-fits e (typeCount lib)
 
+      -- the number without a bit of it is below its width, too
       pub reference-fits : (h : ℕ) → Fits (reference e (typeCount lib)) (referenceOf s lib h)
       unfolding referenceOf
-      reference-fits h = from-fits (bitsOf 24 1 h) (hrefResolved s lib h) (omega arith) (href-inside h)
+      reference-fits h =
+          cond-elim (Fits (reference e (typeCount lib))) (isMisplaced h) _ _
+          (λ m.
+          misplaced-fits e (typeCount lib) (record { bit = bitsOf 24 1 h; offset = cleared h }) (omega arith)
+          (cond-elim (λ (c : ℕ). c < 256 ^ 4) (flagSet dispatchBit h) (h - dispatchBit) h
+          (λ _. omega (arith, is-misplaced h m .notNegative))
+          (λ _. omega (arith, is-misplaced h m .notNegative))))
+          (λ _. from-fits (bitsOf 24 1 h) (hrefResolved s lib h) (omega arith) (href-inside h))

@@ -1,6 +1,7 @@
 -- The description of a library, taken from its bytes alone.
 pub mod Values
 pub mod References
+pub mod MisplacedLaws
 pub mod Trees
 pub mod Constants
 pub mod Members
@@ -26,3 +27,4 @@ pub mod DimensionLaws
 pub mod Edges
 pub mod WorkedCases
 pub mod TableEnds
+pub mod MisplacedCases

@@ -1,21 +1,33 @@
--- References (document 01, "The sheet (added)"), as `resolve_hreftype_full` resolves them. Assumes nothing.
-use mathlib.Core.Bool.{Bool, true, false}
+-- References (document 01, "The sheet (added)"), as `resolve_hreftype_full` resolves them, but for those to no typeinfo (document 02,
+-- §4), which it does not tell from others. `MisplacedLaws` says how the two stand to each other. Assumes nothing.
+use mathlib.Core.Bool.{Bool, true, false, cond, not, _&&_}
 use mathlib.Core.Option.{Option}
 use mathlib.Core.List.{List}
-use Prim.Native.Nat.{ℕ, _+_}
+use Prim.Native.Nat.{ℕ, _+_, _%_}
+use lib.Dec.{eqb}
 use Rattle.util.specs.Read.{read, orZero}
 use Rattle.records.specs.declared.answer.Place.{Place}
 use Rattle.records.specs.Answer.{Answer, value, refused, map, bind}
 use Rattle.records.specs.Counted.{fileNameBytes}
-use Rattle.records.specs.Layout.{offsetOf, impFile, impInfo}
+use Rattle.records.specs.Layout.{sizeOf, offsetOf, impFile, impInfo, typeInfoBase}
 use Rattle.records.specs.Record.{bitsOf}
 use Rattle.typelib.specs.declared.TypeLib.{TypeLib}
 use Rattle.typelib.specs.Names.{guidPlace}
-use Rattle.typelib.specs.References.{Resolved, hrefResolved}
+use Rattle.typelib.specs.Tables.{negative}
+use Rattle.typelib.specs.References.{Resolved, inThisFile, cleared, hrefResolved}
 use Rattle.typelib.specs.References.{internal as here, external}
 use Rattle.description.specs.Description.{Bytes, File, Own, ownIsGuid, Import, Reference}
-use Rattle.description.specs.Description.Reference.{unresolved, internal, imported}
+use Rattle.description.specs.Description.Reference.{unresolved, internal, imported, misplaced}
 use Rattle.describe.specs.Values.{found, bytesIn, fieldOf}
+
+-- "Compilers place typeinfos every 100 bytes", the size of one: "a reference not negative, with its low two bits clear, that is not a
+-- multiple of 100 after the 0x01000000 bit is cleared" is to none (document 02, §4)
+unfoldable pub isMisplaced : ℕ → Bool
+isMisplaced h = not (negative h) && (inThisFile h && not (eqb (cleared h % sizeOf typeInfoBase) 0))
+
+-- "the u32 number so cleared" of such a reference; any other has none
+unfoldable pub misplacedOffset : ℕ → Answer ℕ
+misplacedOffset h = cond (isMisplaced h) (value (cleared h)) (refused 9)
 
 module _ (s : List ℕ) (lib : TypeLib) where
   -- the GUID at an offset, if there is one
@@ -58,6 +70,10 @@ module _ (s : List ℕ) (lib : TypeLib) where
   referenceFrom bit (value (external p file)) = imported (importOf bit (p .at) file)
   referenceFrom bit (refused n) = unresolved
 
-  -- the reference of an hreftype, a 32-bit pattern; its bit 0x01000000 is bit 24
+  -- the reference of an hreftype, a 32-bit pattern; its bit 0x01000000 is bit 24. That it is to no typeinfo "comes before the range of
+  -- the index is looked at", and so before anything that it would resolve to.
   unfoldable pub referenceOf : ℕ → Reference
-  referenceOf h = referenceFrom (bitsOf 24 1 h) (hrefResolved s lib h)
+  referenceOf h =
+      cond (isMisplaced h)
+      (misplaced (record { bit = bitsOf 24 1 h; offset = cleared h }))
+      (referenceFrom (bitsOf 24 1 h) (hrefResolved s lib h))

@@ -1,5 +1,5 @@
--- The bytes of a sheet, field by field: document 01, "The sheet (added)", in its order and its words. Each law follows from
--- the formats of `Sheet` by computation. What writes a sheet is proved by these laws. Assumes nothing.
+-- The bytes of a sheet, field by field: document 01, "The sheet (added)", in its order and its words, with the code that document 02
+-- adds. Each law follows from the formats of `Sheet` by computation. What writes a sheet is proved by these laws. Assumes nothing.
 use mathlib.Core.Path.{_≡_, refl}
 use mathlib.Core.Bool.{false}
 use mathlib.Core.Option.{Option, none, some}
@@ -7,8 +7,8 @@ use mathlib.Core.List.{List, [], _∷_, _++_, map}
 use Prim.Native.Nat.{ℕ, suc}
 use lib.ListN.{length}
 use Rattle.description.specs.Format.{Format, encode, number, joined, counted, opt}
-use Rattle.description.specs.Description.{Bytes, File, ownIsGuid, Import, Internal, Reference, Dimension, Tree, Shape, shapeOf, Constant, isConstant, Variable, Parameter, Function, ImplType, BaseShape, baseShapeOf, Base, TypeInfo, Header, Library}
-use Rattle.description.specs.Sheet.{Edition, u8, u16, u32, bit, guid, name, file, own, import, internal, reference, dimension, level, nested, tree, value, constant, variableValue, variable, parameter, function, implType, base, typeInfo, header, contents, contentsOf, bodies, sheet, sheetBytes}
+use Rattle.description.specs.Description.{Bytes, File, ownIsGuid, Import, Internal, Misplaced, Reference, Dimension, Tree, Shape, shapeOf, Constant, isConstant, Variable, Parameter, Function, ImplType, BaseShape, baseShapeOf, Base, TypeInfo, Header, Library}
+use Rattle.description.specs.Sheet.{Edition, u8, u16, u32, bit, guid, name, file, own, import, internal, misplaced, reference, dimension, level, nested, tree, value, constant, variableValue, variable, parameter, function, implType, base, typeInfo, header, contents, contentsOf, bodies, sheet, sheetBytes}
 
 -- one part behind the other
 abbrev pub inOrder : List (List ℕ) → List ℕ
@@ -243,6 +243,12 @@ module _ (e : Edition) (n : ℕ) where
       ∷ [])
   unfolding reference import bit
   imported-bytes r = refl
+
+  -- "code 3: the bit byte and the u32 number so cleared" (document 02, §4)
+  pub misplaced-bytes : (r : Misplaced)
+      → encode (reference e n) (Reference.misplaced r) ≡ 3 ∷ inOrder (encode u8 (r .bit) ∷ encode u32 (r .offset) ∷ [])
+  unfolding reference misplaced bit
+  misplaced-bytes r = refl
 
 pub file-bytes : (f : File)
     → encode file f

@@ -46,10 +46,16 @@ pub record Internal : Type 0 where
   pub bit : ℕ  -- bit 0x01000000 of the reference, 0 or 1
   pub index : ℕ
 
+-- a reference to no typeinfo (document 02, §4)
+pub record Misplaced : Type 0 where
+  pub bit : ℕ  -- bit 0x01000000 of the reference, 0 or 1
+  pub offset : ℕ  -- "the u32 number so cleared": the byte offset where no typeinfo is
+
 pub data Reference : Type 0 where
   unresolved : Reference  -- 0 nothing
   internal : Internal → Reference  -- 1
   imported : Import → Reference  -- 2
+  misplaced : Misplaced → Reference  -- 3
 
 -- ---- Tree
 

@@ -6,8 +6,8 @@ use mathlib.Core.Option.{Option}
 use mathlib.Core.List.{List, [], _∷_}
 use Prim.Native.Nat.{ℕ, zero, suc}
 use Rattle.description.specs.Format.{At, Cases}
-use Rattle.description.specs.Description.{Bytes, File, Own, ownIsGuid, Import, Internal, Reference, Dimension, Tree, Value, shapeOf, Constant, VariableValue, isConstant, Variable, Parameter, Function, ImplType, Base, baseShapeOf, TypeInfo, Header, Library}
-use Rattle.description.specs.Description.Reference.{unresolved, internal, imported}
+use Rattle.description.specs.Description.{Bytes, File, Own, ownIsGuid, Import, Internal, Misplaced, Reference, Dimension, Tree, Value, shapeOf, Constant, VariableValue, isConstant, Variable, Parameter, Function, ImplType, Base, baseShapeOf, TypeInfo, Header, Library}
+use Rattle.description.specs.Description.Reference.{unresolved, internal, imported, misplaced}
 use Rattle.description.specs.Description.Tree.{nothing, base, pointer, safeArray, cArray, reference}
 
 -- ---- records
@@ -31,6 +31,12 @@ abbrev pub internal-fields : Iso (ℕ × ℕ) Internal
 internal-fields =
     iso (λ (bit, index). record { bit = bit; index = index })
     (λ r. (r .bit, r .index))
+    (λ _. refl) (λ _. refl)
+
+abbrev pub misplaced-fields : Iso (ℕ × ℕ) Misplaced
+misplaced-fields =
+    iso (λ (bit, offset). record { bit = bit; offset = offset })
+    (λ r. (r .bit, r .offset))
     (λ _. refl) (λ _. refl)
 
 abbrev pub dimension-fields : Iso (ℕ × ℕ) Dimension
@@ -118,29 +124,33 @@ library-fields =
 -- ---- data types
 
 abbrev pub reference-types : List (Type 0)
-reference-types = Unit {0} ∷ Internal ∷ Import ∷ []
+reference-types = Unit {0} ∷ Internal ∷ Import ∷ Misplaced ∷ []
 
 abbrev pub reference-make : (code : ℕ) → At reference-types code → Reference
 reference-make zero p = unresolved
 reference-make (suc zero) p = internal p
 reference-make (suc (suc zero)) p = imported p
-reference-make (suc (suc (suc code))) p = absurd p
+reference-make (suc (suc (suc zero))) p = misplaced p
+reference-make (suc (suc (suc (suc code)))) p = absurd p
 
 abbrev pub reference-split : Reference → (code : ℕ) × At reference-types code
 reference-split unresolved = (0, tt)
 reference-split (internal p) = (1, p)
 reference-split (imported p) = (2, p)
+reference-split (misplaced p) = (3, p)
 
 pub reference-make-split : (r : Reference) → reference-make (reference-split r .0) (reference-split r .1) ≡ r
 reference-make-split unresolved = refl
 reference-make-split (internal p) = refl
 reference-make-split (imported p) = refl
+reference-make-split (misplaced p) = refl
 
 pub reference-split-make : (code : ℕ) (p : At reference-types code) → reference-split (reference-make code p) ≡ (code, p)
 reference-split-make zero p = refl
 reference-split-make (suc zero) p = refl
 reference-split-make (suc (suc zero)) p = refl
-reference-split-make (suc (suc (suc code))) p = absurd p
+reference-split-make (suc (suc (suc zero))) p = refl
+reference-split-make (suc (suc (suc (suc code)))) p = absurd p
 
 abbrev pub reference-cases : Cases Reference
 reference-cases = record {

@@ -9,8 +9,8 @@ use lib.Dec.{lit<}
 use lib.ListN.{length, length-append, length-map}
 use Rattle.description.specs.Format.{IfAny, Format, Fits, encode, length-leBytes, Each, joined, list, counted, opt}
 use Rattle.description.specs.Format.IfAny.{missing, found}
-use Rattle.description.specs.Description.{Bytes, Internal, Import, Reference, Dimension, Tree, depth, TypeInfo, Library}
-use Rattle.description.specs.Sheet.{Edition, u16, u32, bit, import, internal, reference, dimension, level, nested, tree, typeInfo, header, contents, contentsOf, bodies, sheet, sheetBytes}
+use Rattle.description.specs.Description.{Bytes, Internal, Import, Misplaced, Reference, Dimension, Tree, depth, TypeInfo, Library}
+use Rattle.description.specs.Sheet.{Edition, u16, u32, bit, import, internal, misplaced, reference, dimension, level, nested, tree, typeInfo, header, contents, contentsOf, bodies, sheet, sheetBytes}
 
 -- ---- fields
 
@@ -45,6 +45,10 @@ module _ (e : Edition) (n : ℕ) where
   pub imported-fits : (r : Import) → Fits import r → Fits (reference e n) (Reference.imported r)
   unfolding reference
   imported-fits r h = (lit< tt, h)
+
+  pub misplaced-fits : (r : Misplaced) → r .bit < 2 → r .offset < 256 ^ 4 → Fits (reference e n) (Reference.misplaced r)
+  unfolding reference misplaced
+  misplaced-fits r h k = (lit< tt, (bit-fits (r .bit) h, k))
 
   module _ (k : ℕ) where
     pub nothing-fits : Fits (nested e n (suc k)) Tree.nothing

@@ -15,9 +15,9 @@ use Prim.Native.Nat.{ℕ, zero, suc}
 use native.Mathlib.Decide.{ℕ-discrete}
 use lib.ListN.{length}
 use Rattle.description.specs.Format.{Format, encode, decode, unit, never, number, _then_, _&_, via, only, below, prefixed, times, list, octets, counted, end, _or_, sum, opt}
-use Rattle.description.specs.Description.{Bytes, File, ownIsGuid, Own, Import, Internal, Reference, Dimension, Tree, Shape, shapeOf, Value, Constant, isConstant, VariableValue, Variable, Parameter, Function, ImplType, BaseShape, baseShapeOf, Base, TypeInfo, Header, Library}
+use Rattle.description.specs.Description.{Bytes, File, ownIsGuid, Own, Import, Internal, Misplaced, Reference, Dimension, Tree, Shape, shapeOf, Value, Constant, isConstant, VariableValue, Variable, Parameter, Function, ImplType, BaseShape, baseShapeOf, Base, TypeInfo, Header, Library}
 use Rattle.description.specs.Description.BaseShape.{absent, parent, implTypes, aliased}
-use Rattle.description.specs.Fields.{file-fields, import-fields, internal-fields, dimension-fields, constant-fields, variable-fields, parameter-fields, function-fields, implType-fields, typeInfo-fields, header-fields, library-fields, reference-cases, tree-cases}
+use Rattle.description.specs.Fields.{file-fields, import-fields, internal-fields, misplaced-fields, dimension-fields, constant-fields, variable-fields, parameter-fields, function-fields, implType-fields, typeInfo-fields, header-fields, library-fields, reference-cases, tree-cases}
 
 -- what the editions of the sheet differ in
 pub record Edition : Type 0 where
@@ -52,7 +52,8 @@ unfoldable pub name : Format Bytes
 name = counted u8
 
 -- ---- "Reference: 0 nothing; 1, u8 bit 0x01000000 (0 or 1), u16 index; 2, the same u8, u32 import flags, then opt GUID if
--- flags have 0x10000, else u32 at 0x08; opt file: opt GUID, u32 lcid, u32 version, u16 length, file name."
+-- flags have 0x10000, else u32 at 0x08; opt file: opt GUID, u32 lcid, u32 version, u16 length, file name." And of document 02, §4:
+-- "code 3: the bit byte and the u32 number so cleared."
 
 unfoldable pub file : Format File
 file = via file-fields (opt guid & u32 & u32 & counted u16)
@@ -68,8 +69,11 @@ import = via import-fields (bit & u32 then λ flags. own (ownIsGuid flags) & opt
 unfoldable pub internal : Edition → ℕ → Format Internal
 internal e n = via internal-fields (bit & below n (number (e .indexWidth)))
 
+unfoldable pub misplaced : Format Misplaced
+misplaced = via misplaced-fields (bit & u32)
+
 unfoldable pub reference : Edition → ℕ → Format Reference
-reference e n = sum reference-cases (unit or internal e n or import or end)
+reference e n = sum reference-cases (unit or internal e n or import or misplaced or end)
 
 -- ---- "Tree: 0 nothing; 1 base, u16; 2 pointer, tree; 3 safe array, tree; 4 C array, u16 dimensions, eight bytes each, tree of
 -- the element (0x00); 5 reference. A tree nests at most 32 descriptions, the outermost and the base included. Each code byte 0

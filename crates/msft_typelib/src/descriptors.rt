@@ -1,7 +1,9 @@
 // Descriptions of types, references and constants.
 use replies::reply;
+use sheet_trees::references;
 use typelib::TypeLib;
-ghost use Rattle.replies.specs.Call.{laid, outcome};
+ghost use Rattle.describe.specs.References.{misplacedOffset};
+ghost use Rattle.replies.specs.Call.{laid, outcome, reply};
 ghost use Rattle.msft_typelib.specs.Rows.{arrayDescRow, constantRow, hrefIndexRow, hrefRow, impFileRow, typeDescRow, typeDescriptionRow};
 ghost use mathlib.Core.Path.{_≡_};
 ghost use mir.Syntax.{w32};
@@ -81,6 +83,14 @@ pub extern "C" fn msft_resolve_hreftype_full(s: &[u8], hreftype: i32, out: &mut 
         rows::of_resolved(lib.resolve_hreftype_full(s, hreftype)),
         out,
     )
+}
+
+// The offset of a reference to no typeinfo. It takes no library.
+#[no_mangle]
+pub extern "C" fn msft_misplaced_offset(hreftype: i32) -> i64
+    ensures { λ r. ⌜ r ≡ reply (misplacedOffset (ofZ w32 hreftype)) ⌝ }
+{
+    reply::of_offset(references::misplaced_offset(hreftype))
 }
 
 // The constant that a record's word gives: inline where the word is negative, else at that offset

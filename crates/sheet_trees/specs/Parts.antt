@@ -42,6 +42,10 @@ referenceBytes lib r = encode (reference edition-one (typeCount lib)) r
 unfoldable pub internalBytes : ℕ → ℕ → Bytes
 internalBytes bit index = 1 ∷ (leBytes 1 bit ++ leBytes 2 index)
 
+-- an offset where no typeinfo is
+unfoldable pub misplacedBytes : ℕ → ℕ → Bytes
+misplacedBytes bit offset = 3 ∷ (leBytes 1 bit ++ leBytes 4 offset)
+
 -- a typeinfo of this library, or nothing
 abbrev pub indexBytes : ℕ → Answer ℕ → Bytes
 indexBytes bit (value index) = internalBytes bit index

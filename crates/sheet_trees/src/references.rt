@@ -11,15 +11,39 @@ use typelib::references::ImpFileAnswer;
 use typelib::references::ResolvedAnswer;
 use typelib::references::ResolvedHreftype;
 use typelib::tables;
+use typelib::typeinfos::OffsetAnswer;
 use util::NEGATIVE;
 ghost use mathlib.Core.Path.{_≡_};
 ghost use Prim.Native.Nat.{_%_};
+ghost use mir.Syntax.{w32};
+ghost use mir.Val.{ofZ};
 ghost use Rattle.records.specs.Answer.{value};
 ghost use Rattle.records.specs.Told.{toldPlace};
-ghost use Rattle.sheet_trees.specs.Parts.{internalBytes};
+ghost use Rattle.describe.specs.References.{misplacedOffset};
+ghost use Rattle.sheet_trees.specs.Parts.{internalBytes, misplacedBytes};
 ghost use Rattle.emit.specs.Emit.{Emits};
 ghost use Rattle.sheet_trees.specs.Emitted.{fileEmitted, hereEmitted, importEmitted, optFileEmitted, ownEmitted, referenceEmitted, resolvedEmitted};
 ghost use Rattle.typelib.specs.Header.{library};
+ghost use Rattle.typelib.specs.Told.{toldOffset};
+
+// The offset of a reference to no typeinfo: one in this library that is no multiple of 100 (document 02, §4). The two resolvers do not
+// ask for it, and divide by 100.
+pub fn misplaced_offset(hreftype: i32) -> OffsetAnswer
+    ensures { λ r. ⌜ toldOffset r ≡ misplacedOffset (ofZ w32 hreftype) ⌝ }
+{
+    let href = util::unsigned32(hreftype);
+    if NEGATIVE <= href {
+        return OffsetAnswer::Refused(9);
+    }
+    if util::bits(href, 0, 2) != 0 {
+        return OffsetAnswer::Refused(9);
+    }
+    let offset = typelib::references::without_dispatch(href);
+    if offset % 100 == 0 {
+        return OffsetAnswer::Refused(9);
+    }
+    OffsetAnswer::Value(TypeInfoOffset(offset))
+}
 
 // The reference of an hreftype. (Most are to this library's own typeinfos, and need no look at a table.)
 pub fn put_reference(s: &[u8], lib: &Numbers, href: u32, out: &mut [u8], to: usize) -> usize
@@ -45,7 +69,12 @@ fn put_in_this_file(s: &[u8], lib: &Numbers, href: u32, out: &mut [u8], to: usiz
     }
     let bit = util::bits(href, 24, 1);
     let offset = TypeInfoOffset(typelib::references::without_dispatch(href));
-    put_here(&*s, lib, bit, offset, out, to)
+    // its index is looked at only where a typeinfo is
+    if offset.0 % 100 == 0 {
+        put_here(&*s, lib, bit, offset, out, to)
+    } else {
+        put_misplaced(bit, offset, out, to)
+    }
 }
 
 // The typeinfo at an offset, by its index; nothing where the library has not so many.
@@ -95,6 +124,15 @@ fn put_internal(bit: u32, index: TypeInfoIndex, out: &mut [u8], to: usize) -> us
     let t = emit::put_u8(out, to, 1);
     let t = emit::put_le(out, t, bit as u64, 1);
     emit::put_le(out, t, index.0 as u64, 2)
+}
+
+// An offset where no typeinfo is.
+fn put_misplaced(bit: u32, offset: TypeInfoOffset, out: &mut [u8], to: usize) -> usize
+    ensures { λ r. ⌜ Emits (value (misplacedBytes bit (offset .0))) to (now (out .entry)) r (now (out .exit)) ⌝ }
+{
+    let t = emit::put_u8(out, to, 3);
+    let t = emit::put_le(out, t, bit as u64, 1);
+    emit::put_u32(out, t, offset.0)
 }
 
 fn put_import(

@@ -23,6 +23,7 @@ pub enum Call {
     Kind(unsafe extern "C" fn(u8) -> i64),
     KindOut(unsafe extern "C" fn(u8, *mut u8, usize) -> i64),
     CodeOut(unsafe extern "C" fn(u16, *mut u8, usize) -> i64),
+    Hreftype(unsafe extern "C" fn(i32) -> i64),
 }
 
 /// Declares the export with the types of its form and gives the call.
@@ -52,6 +53,7 @@ macro_rules! linked {
     (Kind $name:ident) => { linked!(@ Kind $name; u8) };
     (KindOut $name:ident) => { linked!(@ KindOut $name; u8, *mut u8, usize) };
     (CodeOut $name:ident) => { linked!(@ CodeOut $name; u16, *mut u8, usize) };
+    (Hreftype $name:ident) => { linked!(@ Hreftype $name; i32) };
     (@ $form:ident $name:ident; $($parameter:ty),*) => {{
         unsafe extern "C" {
             fn $name($(_: $parameter),*) -> i64;
@@ -85,18 +87,27 @@ impl Call {
             Call::Kind(_) => &["uint8_t"],
             Call::KindOut(_) => &["uint8_t", OUT, SIZE],
             Call::CodeOut(_) => &["uint16_t", OUT, SIZE],
+            Call::Hreftype(_) => &["int32_t"],
         }
     }
 
     pub fn takes_library(&self) -> bool {
-        !matches!(self, Call::Kind(_) | Call::KindOut(_) | Call::CodeOut(_))
+        !matches!(
+            self,
+            Call::Kind(_) | Call::KindOut(_) | Call::CodeOut(_) | Call::Hreftype(_)
+        )
     }
 
     /// Whether values are written, and not replied.
     pub fn has_output(&self) -> bool {
         !matches!(
             self,
-            Call::Lib(_) | Call::One(_) | Call::Two(_) | Call::Three(_) | Call::Kind(_)
+            Call::Lib(_)
+                | Call::One(_)
+                | Call::Two(_)
+                | Call::Three(_)
+                | Call::Kind(_)
+                | Call::Hreftype(_)
         )
     }
 
@@ -124,6 +135,7 @@ impl Call {
                 Call::Kind(call) => call(a as u8),
                 Call::KindOut(call) => call(a as u8, to, room),
                 Call::CodeOut(call) => call(a as u16, to, room),
+                Call::Hreftype(call) => call(a as i32),
             }
         }
     }

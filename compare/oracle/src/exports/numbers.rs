@@ -24,6 +24,7 @@ pub enum Asks {
     Cursor(Cursor),
     RawKind,
     Code,
+    Hreftype,
 }
 
 /// What a word names.

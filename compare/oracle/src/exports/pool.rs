@@ -6,6 +6,7 @@ use std::collections::HashMap;
 
 use super::Parsed;
 use super::numbers::{Asks, Cursor, Numbers, Words};
+use crate::inputs::misplaced;
 use crate::random::Random;
 use crate::readings::Kind;
 use found::{Found, SEGMENTS};
@@ -26,6 +27,9 @@ pub const EDGE_COUNTS: [usize; 3] = [0, usize::MAX - 1, usize::MAX];
 
 /// How far beside a real number one is that is near it.
 const NEAR: usize = 20;
+
+/// References are drawn around those of libraries with fewer types.
+const FEW_TYPES: usize = 6;
 
 impl Pool {
     pub fn new(bytes: &[u8]) -> Self {
@@ -99,6 +103,7 @@ impl Pool {
             Asks::RawKind => [random.below(1 << 8), 0, 0, 0],
             Asks::Code if random.percent(50) => [random.below(1 << 6), 0, 0, 0],
             Asks::Code => [random.below(1 << 16), 0, 0, 0],
+            Asks::Hreftype => [hreftype(random) as u32 as usize, 0, 0, 0],
         }
     }
 
@@ -160,7 +165,7 @@ impl Pool {
     }
 
     /// A word around 0, the edges of 32 bits, its segment's end, or the file's end counted from the
-    /// segment; or a multiple of a record's size, or a byte beside.
+    /// segment; a multiple of a record's size, or a byte beside; or a reference.
     fn word(&self, words: Words, random: &mut Random) -> i32 {
         let (start, length) = self.segments[words.segment()];
         let beside = random.below(5) as i32 - 2;
@@ -172,12 +177,18 @@ impl Pool {
             4 | 5 => length as i32 - random.below(20) as i32,
             6 | 7 => (self.length as i32).wrapping_sub(start as i32) - random.below(40) as i32,
             8 => random.one_of(&[4, 8, 12, 24, 100]) * random.below(50) as i32,
-            9 => 0x0100_0000 + 100 * random.below(10) as i32,
+            9 => return hreftype(random),
             10 => random.below(length.max(1)) as i32,
             _ => return random.number() as i32,
         };
         edge.wrapping_add(beside)
     }
+}
+
+/// A reference around those of a library of few types.
+fn hreftype(random: &mut Random) -> i32 {
+    let count = random.below(FEW_TYPES);
+    misplaced::drawn(random, count)
 }
 
 /// The count of a cursor: none, one of the two largest, a small one, or any.

@@ -4,6 +4,7 @@
 use super::answer::{Answer, Tell};
 use super::numbers::{Asks, Numbers};
 use super::{Export, Rust, export, linked};
+use crate::misplaced::misplaced_offset;
 use crate::readings::{Kind, NOTHING};
 use crate::text_check::text_check;
 use crate::{
@@ -226,7 +227,7 @@ fn func_attributes() -> Vec<Export> {
     )
 }
 
-/// The readings of numbers alone.
+/// The readings of numbers alone. The Rust has none that tells a reference to no typeinfo: that one is document 02's.
 fn alone() -> Vec<Export> {
     vec![
         export!(Kind msft_kind_from_raw, Asks::RawKind, Alone, |[raw, ..]| {
@@ -237,6 +238,9 @@ fn alone() -> Vec<Export> {
         }),
         export!(CodeOut msft_vt_name, Asks::Code, Alone, |[code, ..]| {
             vt_name(code as u16).to_string().tell(&[])
+        }),
+        export!(Hreftype msft_misplaced_offset, Asks::Hreftype, Alone, |[hreftype, ..]| {
+            misplaced_offset(hreftype as i32).tell(&[])
         }),
     ]
 }

@@ -1,10 +1,12 @@
 //! Libraries with something changed: at random, or aimed at the fields that a sheet reads.
 
 use super::layout::{set_word, word};
+use super::misplaced;
 use crate::enumerate::{self, Placed};
+use crate::library::TYPE_DESCRIPTOR_SEGMENT;
 use crate::random::Random;
 use crate::readings::Kind;
-use crate::{TypeLib, inputs::layout};
+use crate::{TypeInfoEntry, TypeKind, TypeLib, inputs::layout};
 
 /// The most changes to one library.
 const MOST_CHANGES: usize = 4;
@@ -12,12 +14,22 @@ const MOST_CHANGES: usize = 4;
 /// The most bytes that are put behind a library.
 const MOST_ADDED: usize = 40;
 
+/// The place of a base in a typeinfo, and of a type descriptor's second word; its size, and the code of one that holds
+/// a reference.
+const BASE: usize = 0x54;
+const SECOND_WORD: usize = 4;
+const DESCRIPTOR_SIZE: usize = 8;
+const REFERENCE_DESCRIPTOR: i32 = 29;
+
 /// A library to be damaged, and the records that the reference finds in it.
 pub struct Victim {
     pub name: String,
     pub bytes: Vec<u8>,
     records: Vec<Placed>,
     segments: Vec<(usize, usize)>,
+    /// The places of the words that are references.
+    references: Vec<usize>,
+    type_count: usize,
 }
 
 impl Victim {
@@ -26,12 +38,35 @@ impl Victim {
         let lib = TypeLib::parse(&bytes).expect("a real library is well formed");
         let records = enumerate::records(&lib);
         let segments = (0..15).filter_map(|number| lib.segment(number)).collect();
+        let references = references(&lib, &records);
+        let type_count = lib.typeinfo_count();
         Victim {
             name,
             records,
             segments,
+            references,
+            type_count,
             bytes,
         }
+    }
+
+    /// Whether some word of it is a reference.
+    pub fn has_references(&self) -> bool {
+        !self.references.is_empty()
+    }
+
+    /// The library with one, some or all of its references replaced by ones that hit no typeinfo, or their neighbours.
+    pub fn with_other_references(&self, random: &mut Random) -> Vec<u8> {
+        let mut bytes = self.bytes.clone();
+        let times = random.one_of(&[0, 40, 100]);
+        let always = random.below(self.references.len().max(1));
+        for (index, at) in self.references.iter().enumerate() {
+            if index == always || random.percent(times) {
+                let number = misplaced::drawn(random, self.type_count);
+                set_word(&mut bytes, *at, number as u32);
+            }
+        }
+        bytes
     }
 
     /// The library with one to a few changes.
@@ -94,6 +129,28 @@ impl Victim {
         let start = random.one_of(&[0, segment]);
         place.wrapping_sub(start) as u32
     }
+}
+
+/// The places of a library's references: bases of kinds 3 and 4, chain records, and descriptors that hold one.
+fn references(lib: &TypeLib, records: &[Placed]) -> Vec<usize> {
+    let held = records.iter().filter_map(|record| match record.kind {
+        Kind::TypeInfo => {
+            let typeinfo = TypeInfoEntry::new(&lib.data()[record.at..][..record.len]);
+            let kinds = [TypeKind::Interface, TypeKind::Dispatch];
+            let has_base = kinds.contains(&typeinfo.typekind());
+            has_base.then_some(record.at + BASE)
+        }
+        Kind::RefRecord => Some(record.at),
+        _ => None,
+    });
+    let (start, length) = lib.segment(TYPE_DESCRIPTOR_SEGMENT).unwrap_or((0, 0));
+    let descriptors = (0..length.min(lib.data().len())).step_by(DESCRIPTOR_SIZE);
+    let user_defined = descriptors.filter(|offset| {
+        let descriptor = lib.type_desc(*offset as i32);
+        descriptor.is_some_and(|(first, _)| first & 0xFFF == REFERENCE_DESCRIPTOR)
+    });
+    let described = user_defined.map(|offset| start + offset + SECOND_WORD);
+    held.chain(described).collect()
 }
 
 /// One change anywhere in the bytes.

@@ -1,9 +1,11 @@
-//! The edges of document 01, and one whole sheet written out by hand.
+//! The edges of document 01, one whole sheet written out by hand, and whole sheets around document 02's code 3.
 
+use super::places::{C_ARRAY, Field, Place, SAFE_ARRAY};
 use super::{MOST_BYTES, MOST_TYPES, program_line, refusal, sheet};
 use crate::inputs::edges::{TOO_LONG, alias, long_then};
 use crate::inputs::large::{self, typeinfo};
 use crate::inputs::layout::{self, Layout, set_word, word, words};
+use crate::inputs::misplaced;
 
 /// The magic, then zeros.
 fn zeros(length: usize) -> Vec<u8> {
@@ -183,12 +185,12 @@ fn constant(number: u32) -> Vec<u8> {
     sheet[12 + 10 + 19 + 5 + 1 + 3 + 6..].to_vec()
 }
 
-/// A function with a parameter, a variable, references of both sorts, a C array, names and GUIDs.
-fn rich() -> Vec<u8> {
+/// An interface of this base with a function, a parameter, a variable, an import, a C array, names and GUIDs.
+fn rich(base: i32) -> Vec<u8> {
     let mut layout = Layout::new(vec![0]);
     layout.header_word(0x0C, 0x0409);
     layout.header_word(0x18, 3);
-    layout.table(layout::TYPEINFOS, typeinfo(3, 0x0100_0000, 1 << 16 | 1));
+    layout.table(layout::TYPEINFOS, typeinfo(3, base, 1 << 16 | 1));
     layout.table(layout::GUIDS, (0..24).collect());
     layout.table(
         layout::NAMES,
@@ -213,8 +215,21 @@ fn rich() -> Vec<u8> {
     layout.bytes()
 }
 
+/// Without a reference that hits no typeinfo a sheet is what it was before document 02.
 #[test]
 fn a_whole_sheet_by_hand() {
+    assert_eq!(reply(&rich(0x0100_0000)), Ok(rich_sheet(&[1, 1, 0, 0])));
+}
+
+/// With one, its own bytes and the length of its type's body are all that is another.
+#[test]
+fn the_same_sheet_with_a_base_that_hits_no_typeinfo() {
+    let misplaced = rich_sheet(&[3, 1, 4, 0, 0, 0]);
+    assert_eq!(reply(&rich(0x0100_0004)), Ok(misplaced));
+}
+
+/// The sheet of that library, its base being these bytes.
+fn rich_sheet(base: &[u8]) -> Vec<u8> {
     let guid = (0..16).collect::<Vec<u8>>();
     let name = vec![1, 2, b'a', b'b'];
     let library = [words([0x0409, 3]), vec![1], guid.clone(), name.clone()].concat();
@@ -226,8 +241,9 @@ fn a_whole_sheet_by_hand() {
         vec![3, 0, b'f', b'.', b'b'],
     ];
     let typeinfo = [
-        // Kind, flags, version, no GUID, no name, declared counts, base.
-        vec![3, 0, 0, 0, 0, 0, 0, 0, 0, 0, 0, 1, 0, 1, 0, 1, 1, 0, 0],
+        // Kind, flags, version, no GUID, no name, declared counts.
+        vec![3, 0, 0, 0, 0, 0, 0, 0, 0, 0, 0, 1, 0, 1, 0],
+        base.to_vec(),
         // One function: memid, name, a pointer to an import.
         vec![1, 0, 1, 5, 0, 0, 0],
         name.clone(),
@@ -246,5 +262,126 @@ fn a_whole_sheet_by_hand() {
     ]
     .concat();
     let contents = words([1, library.len() as u32, typeinfo.len() as u32]);
-    assert_eq!(reply(&rich()), Ok([contents, library, typeinfo].concat()));
+    [contents, library, typeinfo].concat()
+}
+
+/// Document 02's §4 and choice 14, in libraries of so many types: a reference, and its bytes in the sheet.
+const REFERENCES: [(usize, i32, &[u8]); 17] = [
+    (2, 4, &[3, 0, 4, 0, 0, 0]),
+    (2, 100, &[1, 0, 1, 0]),
+    (2, 200, &[0]),
+    (2, 0x0100_0064, &[1, 1, 1, 0]),
+    (2, 0x0100_0004, &[3, 1, 4, 0, 0, 0]),
+    (2, 0x0200_0000, &[3, 0, 0, 0, 0, 2]),
+    (2, -4, &[0]),
+    // Before the range of the index is looked at.
+    (1, 104, &[3, 0, 104, 0, 0, 0]),
+    (1, 96, &[3, 0, 96, 0, 0, 0]),
+    (1, 0x0100_0068, &[3, 1, 104, 0, 0, 0]),
+    (1, 0x7FFF_FFFC, &[3, 1, 0xFC, 0xFF, 0xFF, 0x7E]),
+    // A multiple of 100 as before, without the bit alone.
+    (1, 0, &[1, 0, 0, 0]),
+    (1, 0x0100_0000, &[1, 1, 0, 0]),
+    (1, 100, &[0]),
+    (1, 0x0100_0054, &[3, 1, 84, 0, 0, 0]),
+    // An import, of which there are none.
+    (2, 5, &[0]),
+    (2, 0x0100_0005, &[0]),
+];
+
+#[test]
+fn references_that_hit_no_typeinfo_are_told_in_every_field() {
+    for (count, reference, written) in REFERENCES {
+        for place in Place::all() {
+            let library = misplaced::library(count, place, reference);
+            let right = sheet_around(count, place, written);
+            assert_eq!(reply(&library), Ok(right), "{reference:#x} in {place}");
+        }
+    }
+}
+
+/// The whole sheet of a library whose first type holds a reference of these bytes in this place.
+fn sheet_around(count: usize, place: Place, written: &[u8]) -> Vec<u8> {
+    let first = type_around(place, written);
+    let other = [0; 19];
+    let mut sheet = words([count as u32, 10, first.len() as u32]);
+    for _ in 1..count {
+        sheet.extend(words([other.len() as u32]));
+    }
+    sheet.extend([0; 10]);
+    sheet.extend(first);
+    for _ in 1..count {
+        sheet.extend(other);
+    }
+    sheet
+}
+
+/// The body of that type, in document 01's order.
+fn type_around(place: Place, written: &[u8]) -> Vec<u8> {
+    let (kind, functions, variables) = match place.field {
+        Field::InterfaceBase => (3, 0, 0),
+        Field::DispatchBase => (4, 0, 0),
+        Field::ChainRecord => (5, 0, 0),
+        Field::Alias => (6, 0, 0),
+        Field::Result | Field::Parameter => (0, 1, 0),
+        Field::Variable => (0, 0, 1),
+    };
+    // Kind, flags, version, no GUID, no name, declared counts.
+    let mut body = vec![kind, 0, 0, 0, 0, 0, 0, 0, 0, 0, 0];
+    body.extend([functions, 0, variables, 0]);
+    // Base, functions, variables.
+    match place.field {
+        Field::InterfaceBase | Field::DispatchBase => body.extend(written),
+        Field::ChainRecord => {
+            body.extend(words([1]));
+            body.extend(written);
+            body.extend(words([misplaced::CHAIN_FLAGS]));
+        }
+        Field::Alias => body.extend(tree_around(place, written)),
+        _ => {}
+    }
+    body.extend([functions, 0]);
+    if functions > 0 {
+        body.extend(function_around(place, written));
+    }
+    body.extend([variables, 0]);
+    if variables > 0 {
+        body.extend(member());
+        body.extend(tree_around(place, written));
+        // Flags, kind, offset.
+        body.extend([0, 0, 0, 0, 0, 0, 16, 0, 0, 0]);
+    }
+    body
+}
+
+/// A function whose result is that tree, or a base type, and its one parameter the tree.
+fn function_around(place: Place, written: &[u8]) -> Vec<u8> {
+    let tree = tree_around(place, written);
+    // Flags, slot, FKCCIC, arguments, optional ones, parameters; of these name, flags and default.
+    match place.field {
+        Field::Result => [member(), tree, vec![0; 16]].concat(),
+        _ => {
+            let mut fixed = [0; 16];
+            fixed[10] = 1;
+            fixed[14] = 1;
+            [member(), vec![1, 3, 0], fixed.to_vec(), tree, vec![0; 6]].concat()
+        }
+    }
+}
+
+/// A memid and no name.
+fn member() -> Vec<u8> {
+    [vec![1], words([misplaced::MEMID]), vec![0]].concat()
+}
+
+/// The tree that ends in the reference.
+fn tree_around(place: Place, written: &[u8]) -> Vec<u8> {
+    let outer: &[u8] = match place.around {
+        None => &[],
+        // One dimension of two from 0.
+        Some(C_ARRAY) => &[4, 1, 0, 2, 0, 0, 0, 0, 0, 0, 0],
+        Some(SAFE_ARRAY) => &[3],
+        Some(_) => &[2],
+    };
+    [outer, &[5], written].concat()
 }

@@ -2,12 +2,12 @@
 
 use std::process::ExitCode;
 
-use bounded::exports::numbers::{Asks, Words};
+use bounded::exports::numbers::{Asks, Numbers, Words};
 use bounded::exports::pool::Pool;
 use bounded::exports::stepped::MOST_LINKS;
 use bounded::inputs::layout::{self, Layout};
 use bounded::inputs::{
-    Input, Inputs, constants, edges, large, records, table_ends, text_bytes, texts,
+    Input, Inputs, constants, edges, large, misplaced, records, table_ends, text_bytes, texts,
 };
 use bounded::random::Random;
 use bounded::readings::Kind;
@@ -40,6 +40,12 @@ const FOR_RECORDS: u64 = u64::MAX;
 const FOR_TEXTS: u64 = u64::MAX - 1;
 const FOR_NOISE: u64 = u64::MAX - 2;
 const FOR_DRAWN_TEXTS: u64 = u64::MAX - 3;
+const FOR_HREFTYPES: u64 = u64::MAX - 4;
+
+/// Around these hreftypes all others are asked for that are at most so far away; and so many are drawn.
+const HREFTYPES: [i32; 5] = [0, misplaced::MARK, 2 * misplaced::MARK, i32::MAX, i32::MIN];
+const FAR: i32 = 1 << 16;
+const DRAWN_HREFTYPES: usize = 300_000;
 
 /// Tries everything, and prints what was found.
 pub fn compare(options: &Options) -> ExitCode {
@@ -52,12 +58,14 @@ pub fn compare(options: &Options) -> ExitCode {
         return ExitCode::FAILURE;
     }
     without_library(&mut run);
+    hreftypes(&mut run, &mut inputs.random(FOR_HREFTYPES));
     for input in inputs.corpus() {
         every(&mut run, &input, ABOUT_REAL);
     }
     for input in edges::quick().into_iter().chain(table_ends::libraries()) {
         every(&mut run, &input, ABOUT_NUMBERED);
     }
+    references(&mut run);
     for input in texts::libraries(&mut inputs.random(FOR_TEXTS)) {
         every(&mut run, &input, ABOUT_OTHER);
     }
@@ -89,6 +97,48 @@ fn without_library(run: &mut Run) {
         };
         (0..count).map(|number| [number, 0, 0, 0]).collect()
     });
+}
+
+/// Asks what takes an hreftype alone with all that are near the edges of its bits, and with drawn ones.
+fn hreftypes(run: &mut Run, random: &mut Random) {
+    let near = |middle: i32| (-FAR..=FAR).map(move |far| middle.wrapping_add(far));
+    let mut all: Vec<i32> = HREFTYPES.into_iter().flat_map(near).collect();
+    all.extend((0..DRAWN_HREFTYPES).map(|_| random.number() as i32));
+    for count in misplaced::COUNTS {
+        all.extend(misplaced::edges(count));
+    }
+    let numbers = by_bits(all);
+    run.ask(
+        &Input::new("no library".into(), Vec::new()),
+        |asks, _| match asks {
+            Asks::Hreftype => numbers.clone(),
+            _ => Vec::new(),
+        },
+    );
+}
+
+/// References that hit no typeinfo, in each place of a description, and the resolvers with these and their
+/// neighbours: they say what they said.
+fn references(run: &mut Run) {
+    for input in misplaced::places() {
+        every(run, &input, ABOUT_OTHER);
+    }
+    for count in misplaced::COUNTS {
+        let numbers = by_bits(misplaced::edges(count));
+        let input = Input::new(format!("{count} types"), large::many_types(count));
+        run.ask(&input, |asks, _| match asks {
+            Asks::Word(Words::Reference) => numbers.clone(),
+            _ => Vec::new(),
+        });
+    }
+}
+
+/// Hreftypes as the numbers of calls.
+fn by_bits(hreftypes: Vec<i32>) -> Vec<Numbers> {
+    let hreftypes = hreftypes.into_iter();
+    hreftypes
+        .map(|hreftype| [hreftype as u32 as usize, 0, 0, 0])
+        .collect()
 }
 
 /// Asks with every set of numbers that the input names itself, and with so many drawn ones.

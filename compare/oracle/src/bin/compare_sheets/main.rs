@@ -10,7 +10,7 @@
 //!
 //! The count is that of the numbered inputs; the fixed ones are tried before. It ends with a
 //! failure if there was a difference, or if something did not come up in a run by call that
-//! document 01 names.
+//! the documents name.
 
 #[cfg(product)]
 mod call;
@@ -23,7 +23,7 @@ use std::path::Path;
 use std::process::ExitCode;
 
 use bounded::comparing::stopped;
-use bounded::inputs::{Input, Inputs, edges, table_ends};
+use bounded::inputs::{Input, Inputs, edges, misplaced, table_ends};
 use bounded::sheet::{MOST_BYTES, sheet};
 
 use options::{Options, What};
@@ -51,7 +51,9 @@ fn compare_calls(inputs: &Inputs, count: u64) -> ExitCode {
         println!("no static library is linked: only what the inputs cover is counted");
     }
     let mut run = Run::new();
-    let fixed = inputs.corpus().chain(inputs.beginnings());
+    let fixed = inputs.corpus().chain(misplaced::libraries());
+    let fixed = fixed.chain(misplaced::long());
+    let fixed = fixed.chain(inputs.beginnings());
     let fixed = fixed.chain(edges::small()).chain(edges::large());
     let fixed = fixed.chain(table_ends::libraries());
     for input in fixed.chain(numbered(inputs, count)) {
@@ -69,7 +71,8 @@ fn compare_program(path: &Path, inputs: &Inputs, count: u64) -> ExitCode {
         .corpus()
         .chain(inputs.beginnings().step_by(PROGRAM_BEGINNINGS))
         .chain(edges::small())
-        .chain(table_ends::libraries());
+        .chain(table_ends::libraries())
+        .chain(misplaced::libraries());
     for input in fixed.chain(numbered(inputs, count)) {
         run.program(path, &input);
         if run.is_hopeless() {

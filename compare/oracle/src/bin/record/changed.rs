@@ -1,6 +1,8 @@
-//! Our own libraries with words changed: hostile numbers wherever they may stand.
+//! Our own libraries with words changed: hostile numbers wherever they may stand, and other references in the place of
+//! theirs.
 
 use crate::libraries::Library;
+use bounded::inputs::damage::Victim;
 use bounded::random::Random;
 
 const SEED: u64 = 0x5446_534D_0001_0000;
@@ -8,6 +10,9 @@ const SEED: u64 = 0x5446_534D_0001_0000;
 /// How many changed libraries to make, and how many words to change in each.
 const LIBRARIES: usize = 10;
 const CHANGES: usize = 24;
+
+/// How many libraries to make with other references.
+const WITH_OTHER_REFERENCES: usize = 10;
 
 /// The longest library to change.
 const LONGEST: usize = 3300;
@@ -33,9 +38,18 @@ pub fn all(own: &[Vec<u8>]) -> Vec<Library> {
         .map(Vec::as_slice)
         .filter(|bytes| bytes.len() < LONGEST)
         .collect();
-    (0..LIBRARIES)
+    let mut libraries: Vec<Library> = (0..LIBRARIES)
         .map(|_| Library::new(changed(random.one_of(&short), &mut random), Vec::new()))
-        .collect()
+        .collect();
+    let victims = short
+        .iter()
+        .map(|bytes| Victim::new("ours".into(), bytes.to_vec()));
+    let victims: Vec<Victim> = victims.filter(Victim::has_references).collect();
+    libraries.extend((0..WITH_OTHER_REFERENCES).map(|_| {
+        let victim = &victims[random.below(victims.len())];
+        Library::asked(victim.with_other_references(&mut random), Vec::new())
+    }));
+    libraries
 }
 
 /// The library with some bytes and words changed behind its count of typeinfos, and now and then its

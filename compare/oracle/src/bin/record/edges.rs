@@ -1,12 +1,15 @@
-//! Document 01's edges. What it says of each stands here, and the reference must say the same.
+//! Document 01's edges, and those of document 02's references that hit no typeinfo. What they say of each stands here,
+//! and the reference, or what is made from it, must say the same.
 //!
 //! Its refusals of more than 16,777,216 bytes and of more than 65,535 types are in no file: the bytes would
 //! be too many.
 
+use bounded::inputs::misplaced;
 use bounded::library::{Ask, TYPE_DESCRIPTOR_SEGMENT, TYPEINFO_SEGMENT};
+use bounded::sheet::places::{Field, Place};
 
 use crate::libraries::Library;
-use crate::made_libraries::{Made, TYPEINFO_SIZE, func, typeinfo};
+use crate::made_libraries::{Made, TYPEINFO_SIZE, func, typeinfo, words};
 use crate::questions::{of_word, question};
 
 /// The bytes of a library that holds nothing: its header and its directory.
@@ -33,7 +36,20 @@ const REFERENCES: [(u32, &[u8]); 4] = [
     (0x0100_0064, &[0, 1, 1, 0, 0, 0, 0, 0, 0, 0]),
 ];
 
-/// The answers for the sheet of such a library, each behind a 0: how many bytes it has, and these: type
+/// References in libraries of so many types, and their bytes in a sheet. A resolver gives the first an index all the
+/// same.
+const REFERENCES_IN_SHEETS: [(usize, i32, &[u8]); 8] = [
+    (2, 4, &[3, 0, 4, 0, 0, 0]),
+    (2, 100, &[1, 0, 1, 0]),
+    (2, 200, &[0]),
+    (2, 0x0100_0064, &[1, 1, 1, 0]),
+    (2, 0x0100_0004, &[3, 1, 4, 0, 0, 0]),
+    (2, 0x0200_0000, &[3, 0, 0, 0, 0, 2]),
+    (2, -4, &[0]),
+    (1, 104, &[3, 0, 104, 0, 0, 0]),
+];
+
+/// The answers for the sheet of a library that holds nothing, each behind a 0: how many bytes it has, and these: type
 /// count, body length 10, two words, no GUID, no name.
 const EMPTY_SHEET: [&[u8]; 2] = [
     &[0, 18, 0, 0, 0, 0, 0, 0, 0],
@@ -50,8 +66,37 @@ pub fn libraries() -> Vec<Library> {
         Ask::ResolveHreftypeFull,
         &REFERENCES,
     ));
+    libraries.extend(REFERENCES_IN_SHEETS.map(|(count, reference, written)| {
+        let [length, sheet] = base_sheet(count, written);
+        let library = base_library(count, reference);
+        expect(library, Ask::Sheet, &[&length, &sheet])
+    }));
     libraries.extend(funcs());
     libraries
+}
+
+/// A library whose first type is an interface of this base.
+fn base_library(count: usize, reference: i32) -> Library {
+    let place = Place {
+        field: Field::InterfaceBase,
+        around: None,
+    };
+    let asked = vec![of_word(Ask::ResolveHreftypeFull, reference as u32)];
+    Library::asked(misplaced::library(count, place, reference), asked)
+}
+
+/// The answers for its sheet, each behind a 0: how many bytes it has, and these: type count, body lengths, the
+/// library's body, and the types'. The first has its base between its fixed fields and its counts of members.
+fn base_sheet(count: usize, written: &[u8]) -> [Vec<u8>; 2] {
+    let mut sheet = words(&[count as u32, 10, 19 + written.len() as u32]);
+    sheet.extend(words(&[19]).repeat(count - 1));
+    sheet.extend([0; 10]);
+    sheet.extend([3, 0, 0, 0, 0, 0, 0, 0, 0, 0, 0, 0, 0, 0, 0]);
+    sheet.extend(written);
+    sheet.extend([0; 4]);
+    sheet.extend([0; 19].repeat(count - 1));
+    let length = (sheet.len() as u64).to_le_bytes();
+    [[&[0], &length[..]].concat(), [&[0], &sheet[..]].concat()]
 }
 
 /// What `parse` and a sheet reply to the first bytes of a library whose other bytes are zero.
@@ -190,7 +235,7 @@ fn funcs() -> Vec<Library> {
         .into()
 }
 
-/// The library, if the reference's first answers to what is asked are document 01's.
+/// The library, if the first answers to what is asked are the document's.
 fn expect(library: Library, ask: Ask, answers: &[&[u8]]) -> Library {
     let (_, readings) = library
         .asked
@@ -199,7 +244,7 @@ fn expect(library: Library, ask: Ask, answers: &[&[u8]]) -> Library {
         .find(|(question, _)| question.ask == ask)
         .expect("the edge is asked for");
     for (reading, answer) in readings.iter().zip(answers) {
-        assert_eq!(reading.answer, *answer, "document 01's edge of {ask:?}");
+        assert_eq!(reading.answer, *answer, "the document's edge of {ask:?}");
     }
     library
 }

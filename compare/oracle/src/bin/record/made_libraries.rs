@@ -1,5 +1,6 @@
 //! Libraries made up so that every case of every reading is reached.
 
+use bounded::inputs::misplaced;
 use bounded::library::{
     ARRAY_DESCRIPTOR_SEGMENT, Ask, CONSTANT_SEGMENT, GUID_SEGMENT, IMPORT_FILE_SEGMENT,
     IMPORT_SEGMENT, NAME_SEGMENT, Question, REFERENCE_SEGMENT, STRING_SEGMENT,
@@ -127,6 +128,7 @@ pub fn all() -> Vec<Library> {
     libraries.extend(constants_at_the_end());
     libraries.push(types());
     libraries.extend(references());
+    libraries.extend(references_to_no_typeinfo());
     libraries.extend(typeinfos());
     libraries.extend(members());
     libraries.push(skipped());
@@ -458,6 +460,11 @@ fn references() -> Vec<Library> {
         both(false),
         Made::new(&[0, 0]).library(asked.clone()),
     ]
+}
+
+/// References that hit no typeinfo, in each place of a description, with their bit and without.
+fn references_to_no_typeinfo() -> impl Iterator<Item = Library> {
+    misplaced::places().map(|input| Library::asked(input.bytes, Vec::new()))
 }
 
 /// Typeinfos that end where the file does, one byte past it, at a negative offset and far away; and

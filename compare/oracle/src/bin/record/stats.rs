@@ -4,8 +4,10 @@
 use std::collections::{BTreeMap, HashSet};
 
 use bounded::comparing::kinds::Kinds;
+use bounded::coverage::Coverage;
 use bounded::library::{Ask, NUMBER, Question};
 use bounded::readings::{Kind, Reading, VALUE};
+use bounded::sheet::PROGRAM_BYTES;
 
 use crate::beside::Pair;
 use crate::libraries::Library;
@@ -315,7 +317,20 @@ pub fn libraries(libraries: &[Library]) -> bool {
             if each_way { "" } else { "  not each way" },
         );
     }
-    complete & sees_all_cases(libraries)
+    complete & sees_all_cases(libraries) & sees_all_places(libraries)
+}
+
+/// Whether a reference that hits no typeinfo was seen in each place of a sheet, with its bit and without.
+fn sees_all_places(libraries: &[Library]) -> bool {
+    let mut coverage = Coverage::default();
+    for library in libraries {
+        let _ = coverage.sheet(&library.bytes, PROGRAM_BYTES);
+    }
+    let missing = coverage.missing_misplaced();
+    for place in &missing {
+        println!("not seen: {place}");
+    }
+    missing.is_empty()
 }
 
 /// Prints how many libraries the reference reads as it is, and at how many questions something was cut.

@@ -2,7 +2,7 @@
 //! array descriptors, constants.
 
 use super::{Character, Part};
-use crate::inputs::layout;
+use crate::inputs::{layout, misplaced};
 use crate::random::Random;
 
 /// The codes of type descriptors that name something else.
@@ -125,11 +125,11 @@ impl Tables {
 
     /// A reference to a type of this library, to an import, or to neither.
     pub fn hreftype(&self, random: &mut Random) -> i32 {
-        let dispatch = random.one_of(&[0, 0, 0x0100_0000]);
+        let dispatch = random.one_of(&[0, 0, misplaced::MARK]);
         let number = match random.below(10) {
             0..4 => 100 * random.below(self.type_count + 1) as i32,
             4..8 => self.imports.offset(random) | (1 + random.below(3) as i32),
-            8 => 4 * random.below(100) as i32,
+            8 => return misplaced::drawn(random, self.type_count),
             _ => random.one_of(&[-1, i32::MIN, i32::MAX, 0x0200_0000, 0x0200_0001]),
         };
         number | dispatch

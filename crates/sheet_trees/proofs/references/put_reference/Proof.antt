@@ -1,3 +1,4 @@
+use native.Mathlib.Omega.{arith}
 use Rattle.typelib.specs.Header.{library}
 use Rattle.emit.specs.Laws.{known}
 use Rattle.sheet_trees.proofs.PartLaws.{reference-some, reference-none}
@@ -39,13 +40,13 @@ same-length-2 : tie.Need-same-length-2
 same-length-2 c = search needs
 
 returns-2 : tie.Need-returns-2
-returns-2 c = known (reference-some _ (library (c .before .before .before .before .before .before .before .before .before .before .before .before .before .args .lib .now)) _ (c .before .before .before .before .before .before .before .resolve-at .ensures) (c .before .before .before .before .before .before .before .before .bits2 .ensures) (c .before .before .before .before .before .r .given .1)) (c .before .before .put-resolved .ensures)
+returns-2 c = known (reference-some _ (library (c .before .before .before .before .before .before .before .before .before .before .before .before .before .args .lib .now)) _ (c .before .before .before .before .before .before .before .resolve-at .ensures) (λ z. c .before .before .before .before .before .before .before .before .before .if1 .left (omega (arith, z, c .before .before .before .before .before .before .before .before .before .before .bits .ensures))) (c .before .before .before .before .before .before .before .before .bits2 .ensures) (c .before .before .before .before .before .r .given .1)) (c .before .before .put-resolved .ensures)
 
 same-length-3 : tie.Need-same-length-3
 same-length-3 c = search needs
 
 returns-3 : tie.Need-returns-3
-returns-3 c = known (reference-none _ (library (c .before .before .before .before .before .before .before .before .before .before .before .before .args .lib .now)) _ (c .before .before .before .before .before .before .resolve-at .ensures) (c .before .before .before .before .enum-told .given .1)) (c .before .before .put-u8 .ensures)
+returns-3 c = known (reference-none _ (library (c .before .before .before .before .before .before .before .before .before .before .before .before .args .lib .now)) _ (c .before .before .before .before .before .before .resolve-at .ensures) (λ z. c .before .before .before .before .before .before .before .before .if1 .left (omega (arith, z, c .before .before .before .before .before .before .before .before .before .bits .ensures))) (c .before .before .before .before .enum-told .given .1)) (c .before .before .put-u8 .ensures)
 
 pub put-reference-spec : {M : Type 1} → statement M
 put-reference-spec =
