@@ -125,13 +125,14 @@ memid-missing {x} {n} e = rw e
 
 -- ---- references
 
-pub internal-is : (bit index : ℕ) → value (1 ∷ []) ▸ (value (leBytes 1 bit) ▸ value (leBytes 2 index)) ≡ value (internalBytes bit index)
+-- (the code and the bit are put as one number)
+pub internal-is : (bit index : ℕ) → value (leBytes 2 (1 + 256 * bit)) ▸ value (leBytes 2 index) ≡ value (internalBytes bit index)
 unfolding internalBytes
-internal-is bit index = refl
+internal-is bit index = ap (λ (a : Answer Bytes). a ▸ value (leBytes 2 index)) (byte-first 1 1 bit (omega arith))
 
-pub misplaced-is : (bit offset : ℕ) → value (3 ∷ []) ▸ (value (leBytes 1 bit) ▸ value (leBytes 4 offset)) ≡ value (misplacedBytes bit offset)
+pub misplaced-is : (bit offset : ℕ) → value (leBytes 2 (3 + 256 * bit)) ▸ value (leBytes 4 offset) ≡ value (misplacedBytes bit offset)
 unfolding misplacedBytes
-misplaced-is bit offset = refl
+misplaced-is bit offset = ap (λ (a : Answer Bytes). a ▸ value (leBytes 4 offset)) (byte-first 1 3 bit (omega arith))
 
 module _ (s : List ℕ) (lib : TypeLib) where
   own-true : (x : ℕ) (b : Bool) → b ≡ true → encode (opt guid) (guidOf s lib x) ≡ ownBytes b (ownOf s lib b x)

@@ -45,13 +45,23 @@ pub fn misplaced_offset(hreftype: i32) -> OffsetAnswer
     OffsetAnswer::Value(TypeInfoOffset(offset))
 }
 
-// The reference of an hreftype. (Most are to this library's own typeinfos, and need no look at a table.)
+// The reference of an hreftype. (Most are to this library's own typeinfos, and need no look at a table. The other way is long and has
+// a caller of its own besides, so that the compiler puts this test alone into the callers.)
 pub fn put_reference(s: &[u8], lib: &Numbers, href: u32, out: &mut [u8], to: usize) -> usize
     ensures { λ r. ⌜ Emits (referenceEmitted (now (s .entry)) (library (now (lib .entry))) href) to (now (out .entry)) r (now (out .exit)) ⌝ }
 {
     if util::bits(href, 0, 2) == 0 {
-        return put_in_this_file(&*s, lib, href, out, to);
+        put_in_this_file(&*s, lib, href, out, to)
+    } else {
+        put_elsewhere(&*s, lib, href, out, to)
     }
+}
+
+// The same of one to another library, as one is that has one of its low two bits set.
+pub(crate) fn put_elsewhere(s: &[u8], lib: &Numbers, href: u32, out: &mut [u8], to: usize) -> usize
+    requires { ⌜ (href % 4 ≡ 0 → ⊥) ⌝ }
+    ensures { λ r. ⌜ Emits (referenceEmitted (now (s .entry)) (library (now (lib .entry))) href) to (now (out .entry)) r (now (out .exit)) ⌝ }
+{
     let bit = util::bits(href, 24, 1);
     match typelib::references::resolve_at(lib, &*s, href) {
         ResolvedAnswer::Value(r) => put_resolved(&*s, lib, bit, r, out, to),
@@ -60,7 +70,13 @@ pub fn put_reference(s: &[u8], lib: &Numbers, href: u32, out: &mut [u8], to: usi
 }
 
 // The same of one in this library, as one is whose low two bits are clear.
-fn put_in_this_file(s: &[u8], lib: &Numbers, href: u32, out: &mut [u8], to: usize) -> usize
+pub(crate) fn put_in_this_file(
+    s: &[u8],
+    lib: &Numbers,
+    href: u32,
+    out: &mut [u8],
+    to: usize,
+) -> usize
     requires { ⌜ href % 4 ≡ 0 ⌝ }
     ensures { λ r. ⌜ Emits (referenceEmitted (now (s .entry)) (library (now (lib .entry))) href) to (now (out .entry)) r (now (out .exit)) ⌝ }
 {
@@ -118,11 +134,11 @@ fn put_resolved(
     }
 }
 
+// A typeinfo of this library. (The code and the bit are put as one number.)
 fn put_internal(bit: u32, index: TypeInfoIndex, out: &mut [u8], to: usize) -> usize
     ensures { λ r. ⌜ Emits (value (internalBytes bit (index .0))) to (now (out .entry)) r (now (out .exit)) ⌝ }
 {
-    let t = emit::put_u8(out, to, 1);
-    let t = emit::put_le(out, t, bit as u64, 1);
+    let t = emit::put_le(out, to, 1 + 256 * (bit as u64), 2);
     emit::put_le(out, t, index.0 as u64, 2)
 }
 
@@ -130,8 +146,7 @@ fn put_internal(bit: u32, index: TypeInfoIndex, out: &mut [u8], to: usize) -> us
 fn put_misplaced(bit: u32, offset: TypeInfoOffset, out: &mut [u8], to: usize) -> usize
     ensures { λ r. ⌜ Emits (value (misplacedBytes bit (offset .0))) to (now (out .entry)) r (now (out .exit)) ⌝ }
 {
-    let t = emit::put_u8(out, to, 3);
-    let t = emit::put_le(out, t, bit as u64, 1);
+    let t = emit::put_le(out, to, 3 + 256 * (bit as u64), 2);
     emit::put_u32(out, t, offset.0)
 }
 

@@ -157,8 +157,13 @@ fn put_user(s: &[u8], lib: &Numbers, href: u32, out: &mut [u8], to: usize) -> Le
     ensures { λ r. ⌜ HeadPut (userBytes (now (s .entry)) (library (now (lib .entry))) href) none to (now (out .entry)) r (now (out .exit)) ⌝ }
 {
     let t = emit::put_u8(out, to, 5);
+    let end = if util::bits(href, 0, 2) == 0 {
+        references::put_in_this_file(&*s, lib, href, out, t)
+    } else {
+        references::put_elsewhere(&*s, lib, href, out, t)
+    };
     Level {
-        to: references::put_reference(&*s, lib, href, out, t),
+        to: end,
         inner: Inner::Nothing,
     }
 }

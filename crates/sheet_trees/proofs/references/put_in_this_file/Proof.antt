@@ -31,7 +31,7 @@ same-length-2 : tie.Need-same-length-2
 same-length-2 c = search needs
 
 returns-2 : tie.Need-returns-2
-returns-2 c = known (in-this-offset _ (library (c .before .before .before .before .before .before .before .before .before .before .before .args .lib .now)) _ (omega (arith, c .before .before .before .before .before .before .before .before .if1 .left)) (c .before .before .before .before .before .before .before .before .before .before .before .pre) (c .before .before .before .before .before .before .before .bits .ensures) (c .before .before .before .before .before .before .without-dispatch .ensures) (c .before .before .before .before .if2 .taken)) (c .before .before .put-here .ensures)
+returns-2 c = known (in-this-offset _ (library (c .before .before .before .before .before .before .before .before .before .before .before .args .lib .now)) _ (omega (arith, c .before .before .before .before .before .before .before .before .if1 .left)) (c .before .before .before .before .before .before .before .before .before .before .before .pre) (c .before .before .before .before .before .before .before .bits .ensures) (c .before .before .before .before .before .before .without-dispatch .ensures) (omega (arith, c .before .before .before .before .if2 .taken))) (c .before .before .put-here .ensures)
 
 same-length-3 : tie.Need-same-length-3
 same-length-3 c = search needs
