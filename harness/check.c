@@ -1,5 +1,5 @@
-/* tlb check: whether a library is read, with what it names outside its tables and what is not UTF-8, and if not,
-   what is refused and where. */
+/* tlb check: whether a library is read, with what it names outside its tables, its references that hit no typeinfo
+   and what is not UTF-8, and if not, what is refused and where. */
 #include "commands.h"
 #include "findings.h"
 #include "spell.h"

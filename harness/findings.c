@@ -12,9 +12,10 @@ typedef int64_t reading(const uint8_t *lib, size_t lib_len, int32_t offset, uint
 /* The most bytes that one of these readings writes: those of a reference. */
 enum { MOST_OUT = 34 };
 
-/* What is found: an offset that leads out of its table, or a text that is not UTF-8. A library in a code page can
-   have hundreds of the second, which must not push out the first: each kind is counted and told by itself. */
-typedef enum kind { OUTSIDE, NOT_UTF8, KINDS } kind;
+/* What is found: an offset that leads out of its table, a reference to where no typeinfo is, or a text that is not
+   UTF-8. A library in a code page can have hundreds of the last, which must not push out the others: each kind is
+   counted and told by itself. */
+typedef enum kind { OUTSIDE, MISPLACED, NOT_UTF8, KINDS } kind;
 
 /* A hostile library can lead out of its tables millions of times: so many of a kind are told. */
 enum { MOST_TOLD = 100 };
@@ -187,12 +188,23 @@ static void look_at_import(search *s, const char *what, const msft_reference *r)
     look_at_file_name(s, what, file, r->file);
 }
 
-/* A reference with one of its low two bits set names an import record; any other is no offset into a
-   table. */
+static void found_misplaced(search *s, const char *what, int64_t offset)
+{
+    if (counted(s, MISPLACED))
+        printf("  %s: %s refers to %ld, where no typeinfo is\n", s->where.text, what, (long)offset);
+}
+
+/* A reference with one of its low two bits set names an import record. Any other is a typeinfo's place, or no
+   typeinfo is there; it is not looked up in a table. */
 static void look_at_reference(search *s, const char *what, int64_t hreftype)
 {
     uint8_t out[MOST_OUT];
-    if (!names_something(hreftype) || (hreftype & 3) == 0)
+    if (!names_something(hreftype))
+        return;
+    int64_t misplaced = msft_misplaced_offset(msft_i32(hreftype));
+    if (0 <= misplaced)
+        found_misplaced(s, what, misplaced);
+    if ((hreftype & 3) == 0)
         return;
     if (msft_resolve_hreftype_full(BYTES(s->l), msft_i32(hreftype), out, sizeof out) < 0) {
         found(s, "the import record of ", what, hreftype & ~INT64_C(0x01000003),
@@ -368,6 +380,9 @@ void print_findings(const library *l)
     search_for(&s, l, KINDS);
     print_kind(l, OUTSIDE, s.found[OUTSIDE],
                s.found[OUTSIDE] == 1 ? "reading leads out of its table" : "readings lead out of their tables");
+    print_kind(l, MISPLACED, s.found[MISPLACED],
+               s.found[MISPLACED] == 1 ? "reference hits no typeinfo; typeinfos stand every 100 bytes"
+                                       : "references hit no typeinfo; typeinfos stand every 100 bytes");
     print_kind(l, NOT_UTF8, s.found[NOT_UTF8],
                s.found[NOT_UTF8] == 1 ? "text is not UTF-8; names in a code page are read as bytes, not as text"
                                       : "texts are not UTF-8; names in a code page are read as bytes, not as text");

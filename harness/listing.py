@@ -1,12 +1,12 @@
 #!/usr/bin/env python3
-"""Prints from a raw sheet what `tlb members` must list of its library, and writes to a file which of its names
-`tlb check` must tell as not UTF-8: listing.py SHEET FILE.
+"""Prints from a raw sheet what `tlb members` must list of its library, and writes to two files which of its names
+`tlb check` must tell as not UTF-8, and which references as hitting no typeinfo: listing.py SHEET NAMES REFERENCES.
 
 The tool reads the library's records; this reads the sheet, which is proved to be the library's
 description, by document 01's layout. The tests hold the two against each other. The sheet has no
 numbers: a function's or a variable's is its place in the sheet's list, from 0. The library's help
 string is in no sheet, and `extends` is left out where the reference is nothing. Where a name stops being UTF-8
-is what Python's decoder says; its line has numbers and no names, and no offsets."""
+is what Python's decoder says; a line has numbers and no names, and no offsets into tables."""
 import math
 import struct
 import sys
@@ -28,7 +28,7 @@ UNSIGNED = {17: 1, 18: 2, 19: 4, 21: 8, 23: 4}
 class Reader:
     def __init__(self, data):
         self.data, self.at = data, 0
-        self.where, self.faults = ['the library'], []
+        self.where, self.faults, self.misplaced = ['the library'], [], []
 
     def within(self, part, number, read):
         """What `read` reads is a part, by that number, of what is read now."""
@@ -37,10 +37,13 @@ class Reader:
         self.where.pop()
         return found
 
+    def place(self):
+        return ', '.join(self.where[1:] or self.where)
+
     def text(self, what, text):
         words = fault(text)
         if words:
-            self.faults.append('%s: %s: %s' % (', '.join(self.where[1:] or self.where), what, words))
+            self.faults.append('%s: %s: %s' % (self.place(), what, words))
         return text
 
     def take(self, count):
@@ -69,15 +72,23 @@ class Reader:
         code = self.number(1)
         if code == 0:
             return None
-        self.number(1)
+        assert self.number(1) < 2
         if code == 1:
             return self.number(2)
+        if code == 3:
+            return self.no_typeinfo(of, self.number(4))
+        assert code == 2
         if self.number(4) & 0x10000:
             what = self.opt(self.guid) or '(nothing)'
         else:
             what = '#%d' % struct.unpack('<i', self.take(4))
         file = self.opt(lambda: self.file(of))
         return ('(no file)' if file is None else file) + ':' + what
+
+    def no_typeinfo(self, of, offset):
+        assert offset % 4 == 0 and offset % 100 != 0 and offset & 0x81000000 == 0
+        self.misplaced.append('%s: %s refers to %d, where no typeinfo is' % (self.place(), of, offset))
+        return '(no typeinfo at %d)' % offset
 
     def file(self, of):
         self.opt(self.guid)
@@ -280,8 +291,9 @@ def main():
     print('    %s, lcid 0x%04x, %d types' % (versions(version), lcid, count))
     for _, lines in types:
         print('\n'.join(lines(names)))
-    with open(sys.argv[2], 'w') as faults:
-        faults.writelines(line + '\n' for line in r.faults)
+    for path, told in zip(sys.argv[2:], (r.faults, r.misplaced)):
+        with open(path, 'w') as file:
+            file.writelines(line + '\n' for line in told)
 
 
 main()

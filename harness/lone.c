@@ -1,4 +1,5 @@
-/* Calls about bytes that are no library: records, cursors, a chain and texts alone. Prints what each replies. */
+/* Calls about bytes that are no library: records, cursors, a chain and texts alone; and one about a number alone.
+   Prints what each replies. */
 #include <stdio.h>
 #include <stdlib.h>
 
@@ -93,6 +94,18 @@ static void texts(void)
     say("a text, no room", msft_text_check(bytes, sizeof bytes, MSFT_PLACE(whole), out, sizeof out - 1));
 }
 
+/* References by their numbers: the smallest; at multiples of 100, of the whole number or without its bit 0x01000000,
+   and beside them; with a low bit set; at the ends of the range. */
+static void references(void)
+{
+    static const int32_t hreftypes[] = {
+        0, 4, 8, 96, 100, 104, 200, 0x01000000, 0x01000004, 0x01000054, 0x01000064, 0x02000000, 0x03000000,
+        1, 2, 3, 5, 101, 0x01000005, 0x7effffe0, 0x7efffffc, 0x7fffffd0, 0x7fffffe0, 0x7ffffffc, INT32_MAX,
+        -1, -4, -100, -0x7ffffffc, INT32_MIN};
+    for (size_t i = 0; i < sizeof hreftypes / sizeof *hreftypes; i++)
+        printf("a reference of %ld: %ld\n", (long)hreftypes[i], (long)msft_misplaced_offset(hreftypes[i]));
+}
+
 /* What parses refuses such bytes, and over-long bytes are refused by all. */
 static int refused(void)
 {
@@ -116,5 +129,6 @@ int main(void)
     chain();
     name();
     texts();
+    references();
     return refused();
 }

@@ -42,17 +42,6 @@ static const char *invoke_word(int64_t kind)
     }
 }
 
-static const char *variable_word(int64_t kind)
-{
-    switch (kind) {
-    case 0: return "field";
-    case 1: return "static";
-    case 2: return "const";
-    case 3: return "property";
-    default: return "unknown";
-    }
-}
-
 /* ---- cells ---- */
 
 static void put_name(cell *c, text name)
@@ -260,21 +249,6 @@ static void print_base(const library *l, msft_place type, int64_t kind)
 
 /* ---- types and the library ---- */
 
-static void put_kind(cell *c, int64_t kind)
-{
-    uint8_t words[16];
-    int64_t n = msft_kind_word((uint8_t)kind, words, sizeof words);
-    if (0 < n)
-        put(c, "%.*s", (int)n, (const char *)words);
-}
-
-/* A version, the major one in the low half. */
-static void put_version(cell *c, int64_t version)
-{
-    if (0 <= version)
-        put(c, "version %ld.%ld", (long)(version & 0xffff), (long)(version >> 16));
-}
-
 static void print_type(const library *l, size_t index, msft_place type)
 {
     int64_t kind = msft_typeinfo_typekind(BYTES(l), MSFT_PLACE(type));
@@ -289,7 +263,7 @@ static void print_type(const library *l, size_t index, msft_place type)
     printf("\n%s\n", c.text);
     clear(&c);
     put_version(&c, msft_typeinfo_version(BYTES(l), MSFT_PLACE(type)));
-    printf("    flags 0x%08lx, %s\n",
+    printf("    flags 0x%08lx, version %s\n",
            (unsigned long)msft_typeinfo_flags(BYTES(l), MSFT_PLACE(type)), c.text);
     print_base(l, type, kind);
     print_functions(l, type, &heads);
@@ -306,7 +280,7 @@ static void print_library(const library *l)
     puts(c.text);
     clear(&c);
     put_version(&c, msft_version(BYTES(l)));
-    printf("    %s, lcid 0x%04lx, %ld types\n", c.text, (unsigned long)msft_lcid(BYTES(l)),
+    printf("    version %s, lcid 0x%04lx, %ld types\n", c.text, (unsigned long)msft_lcid(BYTES(l)),
            (long)msft_typeinfo_count(BYTES(l)));
     text help = text_at(l, msft_lib_helpstring(BYTES(l), out, sizeof out), out);
     clear(&c);

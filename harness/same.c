@@ -1,5 +1,6 @@
 /* tlb same: whether two libraries have the same description, and where their sheets part. */
 #include "commands.h"
+#include "fields.h"
 #include "spell.h"
 
 #include <stdio.h>
@@ -68,16 +69,16 @@ static void put_entry(cell *c, size_t at)
         put(c, "the length of type %zu's body", at / WORD - 2);
 }
 
-static void put_body(cell *c, const side *a, const side *b, size_t body)
+static void put_body(cell *c, const side *a, const side *b, size_t number)
 {
-    if (body == 0) {
+    if (number == 0) {
         put(c, "the library's body");
         return;
     }
-    put(c, "the body of type %zu, ", body - 1);
-    put_quoted(c, type_name(&a->lib, body - 1));
+    put(c, "the body of type %zu, ", number - 1);
+    put_quoted(c, type_name(&a->lib, number - 1));
     put(c, " and ");
-    put_quoted(c, type_name(&b->lib, body - 1));
+    put_quoted(c, type_name(&b->lib, number - 1));
 }
 
 static void print_bytes(text a, text b, size_t at)
@@ -90,23 +91,32 @@ static void print_bytes(text a, text b, size_t at)
     puts(c.text);
 }
 
-/* The first body that is not the same in both, and where it parts. */
-static void print_body(const side *a, const side *b)
+/* The body of that number, the library's being 0, and where it parts. */
+static void print_body(const side *a, const side *b, size_t number, text one, text two)
+{
+    const body first = {&a->lib, one, number != 0}, second = {&b->lib, two, number != 0};
+    size_t at = parting(one, two);
+    cell c;
+    clear(&c);
+    put_body(&c, a, b, number);
+    printf("first in %s, at byte %zu of it: ", c.text, at);
+    print_bytes(one, two, at);
+    print_parting_field(&first, &second, at);
+}
+
+/* The first body that is not the same in both. */
+static void print_first_body(const side *a, const side *b)
 {
     size_t from = contents_length(&a->sheet), other = contents_length(&b->sheet);
     size_t types = types_in(&a->sheet);
     if (types_in(&b->sheet) < types)
         types = types_in(&b->sheet);
-    for (size_t body = 0; body <= types; body++) {
-        text one = part(&a->sheet, from, word_at(&a->sheet, body + 1));
-        text two = part(&b->sheet, other, word_at(&b->sheet, body + 1));
+    for (size_t number = 0; number <= types; number++) {
+        text one = part(&a->sheet, from, word_at(&a->sheet, number + 1));
+        text two = part(&b->sheet, other, word_at(&b->sheet, number + 1));
         size_t at = parting(one, two);
         if (at < one.len || at < two.len) {
-            cell c;
-            clear(&c);
-            put_body(&c, a, b, body);
-            printf("first in %s, at byte %zu of it: ", c.text, at);
-            print_bytes(one, two, at);
+            print_body(a, b, number, one, two);
             return;
         }
         from += one.len;
@@ -127,7 +137,7 @@ static void print_parting(const side *a, const side *b)
         put(&c, "a body");
     printf("different descriptions\nsheets part at byte %zu, in %s: ", at, c.text);
     print_bytes(one, two, at);
-    print_body(a, b);
+    print_first_body(a, b);
 }
 
 static bool equal(const sheet *a, const sheet *b)

@@ -56,15 +56,45 @@ void put_quoted(cell *c, text t)
     put(c, "\"");
 }
 
-void put_guid(cell *c, const library *l, int64_t offset)
+void put_guid_text(cell *c, text guid)
 {
-    uint8_t place[16], words[38];
-    if (offset < 0 || msft_guid(BYTES(l), msft_i32(offset), place, sizeof place) < 0)
-        return;
-    msft_place p = msft_unpack_place(place);
-    int64_t n = msft_guid_text(BYTES(l), MSFT_PLACE(p), words, sizeof words);
+    uint8_t words[38];
+    int64_t n = msft_guid_text(guid.bytes, guid.len, 0, guid.len, words, sizeof words);
     if (0 < n)
         put(c, "%.*s", (int)n, (const char *)words);
+}
+
+void put_guid(cell *c, const library *l, int64_t offset)
+{
+    uint8_t out[16];
+    if (0 <= offset && 0 <= msft_guid(BYTES(l), msft_i32(offset), out, sizeof out))
+        put_guid_text(c, text_at(l, 0, out));
+}
+
+/* ---- words for codes ---- */
+
+void put_kind(cell *c, int64_t kind)
+{
+    uint8_t words[16];
+    int64_t n = msft_kind_word((uint8_t)kind, words, sizeof words);
+    if (0 < n)
+        put(c, "%.*s", (int)n, (const char *)words);
+}
+
+const char *variable_word(int64_t kind)
+{
+    switch (kind) {
+    case 0: return "field";
+    case 1: return "static";
+    case 2: return "const";
+    case 3: return "property";
+    default: return "unknown";
+    }
+}
+
+void put_version(cell *c, int64_t version)
+{
+    put(c, "%ld.%ld", (long)(version & 0xffff), (long)(version >> 16));
 }
 
 /* ---- references ---- */
@@ -97,30 +127,51 @@ static void put_import(cell *c, const library *l, const msft_reference *r)
         put(c, "(nothing)");
 }
 
-void put_reference(cell *c, const library *l, int64_t hreftype)
+void put_internal(cell *c, const library *l, size_t index)
 {
-    uint8_t out[40];
-    if (hreftype < 0
-        || msft_resolve_hreftype_full(BYTES(l), msft_i32(hreftype), out, sizeof out) < 0) {
-        put(c, "(nothing)");
-        return;
-    }
-    msft_reference r = msft_unpack_reference(out);
-    if (r.code == MSFT_EXTERNAL) {
-        put_import(c, l, &r);
-        return;
-    }
-    text name = type_name(l, r.index);
+    text name = type_name(l, index);
     if (name.bytes == NULL)
-        put(c, "[%zu]", r.index);
+        put(c, "[%zu]", index);
     else
         put_text(c, name);
 }
 
+void put_misplaced(cell *c, int64_t offset)
+{
+    put(c, "(no typeinfo at %ld)", (long)offset);
+}
+
+static void put_resolved(cell *c, const library *l, int32_t hreftype)
+{
+    uint8_t out[40];
+    if (msft_resolve_hreftype_full(BYTES(l), hreftype, out, sizeof out) < 0) {
+        put(c, "(nothing)");
+        return;
+    }
+    msft_reference r = msft_unpack_reference(out);
+    if (r.code == MSFT_EXTERNAL)
+        put_import(c, l, &r);
+    else
+        put_internal(c, l, r.index);
+}
+
+/* Whether there is a typeinfo at the offset is asked first: what resolves a reference rounds it down to one. */
+void put_reference(cell *c, const library *l, int64_t hreftype)
+{
+    if (hreftype < 0) {
+        put(c, "(nothing)");
+        return;
+    }
+    int64_t misplaced = msft_misplaced_offset(msft_i32(hreftype));
+    if (0 <= misplaced)
+        put_misplaced(c, misplaced);
+    else
+        put_resolved(c, l, msft_i32(hreftype));
+}
+
 /* ---- types ---- */
 
-/* The name of a VARTYPE code, and the code itself where it has none. */
-static void put_code(cell *c, uint16_t code)
+void put_code(cell *c, uint16_t code)
 {
     uint8_t words[32];
     int64_t n = msft_vt_name(code, words, sizeof words);
@@ -130,16 +181,20 @@ static void put_code(cell *c, uint16_t code)
         put(c, "(%u)", (unsigned)code);
 }
 
+void put_bounds(cell *c, msft_bound b)
+{
+    if (b.lower == 0)
+        put(c, "[%lu]", (unsigned long)b.elements);
+    else
+        put(c, "[%ld..%lld]", (long)b.lower, (long long)b.lower + b.elements - 1);
+}
+
 static void put_bound(cell *c, const library *l, msft_place array, size_t index)
 {
     uint8_t out[8];
     if (msft_arraydesc_bound(BYTES(l), MSFT_PLACE(array), index, out, sizeof out) < 0)
         return;
-    msft_bound b = msft_unpack_bound(out);
-    if (b.lower == 0)
-        put(c, "[%lu]", (unsigned long)b.elements);
-    else
-        put(c, "[%ld..%lld]", (long)b.lower, (long long)b.lower + b.elements - 1);
+    put_bounds(c, msft_unpack_bound(out));
 }
 
 /* Whether the last dimension of an array is there. */
@@ -284,17 +339,17 @@ static void put_currency(cell *c, uint64_t bits)
         (unsigned)(size % 10000));
 }
 
-static void put_decimal(cell *c, const library *l, msft_place p)
+static void put_decimal(cell *c, const uint8_t *bytes, msft_place p)
 {
     put(c, "decimal(");
     for (size_t i = 0; i < p.len && i < 16; i++)
-        put(c, "%02x", l->bytes[p.at + i]);
+        put(c, "%02x", bytes[p.at + i]);
     put(c, ")");
 }
 
-static void put_string(cell *c, const library *l, const msft_constant *k)
+static void put_string(cell *c, const uint8_t *bytes, const msft_constant *k)
 {
-    text t = {l->bytes + k->place.at, k->place.len};
+    text t = {bytes + k->place.at, k->place.len};
     if (k->is_null)
         put(c, "(null string)");
     else
@@ -311,7 +366,7 @@ static void put_bits(cell *c, const msft_constant *k)
         put(c, "raw(%u, 0x%08llx)", (unsigned)k->vt, (unsigned long long)k->bits);
 }
 
-static void put_value(cell *c, const library *l, const msft_constant *k)
+void put_value(cell *c, const uint8_t *bytes, const msft_constant *k)
 {
     switch (k->vt) {
     case 0: put(c, "(empty)"); break;
@@ -329,9 +384,9 @@ static void put_value(cell *c, const library *l, const msft_constant *k)
         put(c, ")");
         break;
     case 6: put_currency(c, k->bits); break;
-    case 8: put_string(c, l, k); break;
+    case 8: put_string(c, bytes, k); break;
     case 11: put(c, k->bits != 0 ? "true" : "false"); break;
-    case 14: put_decimal(c, l, k->place); break;
+    case 14: put_decimal(c, bytes, k->place); break;
     default: put_bits(c, k);
     }
 }
@@ -347,5 +402,5 @@ void put_constant(cell *c, const library *l, int64_t word)
         return;
     }
     msft_constant k = msft_unpack_constant(out, reply);
-    put_value(c, l, &k);
+    put_value(c, l->bytes, &k);
 }
