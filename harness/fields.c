@@ -1,4 +1,4 @@
-/* The fields of a sheet's bodies, by the layout in document 01, and of a reference to no typeinfo in document 02.
+/* The fields of a sheet's bodies, by the layout in document 01, and of a reference that hits no typeinfo in document 02.
    A walk reads a body field by field up to the one that holds the wanted byte. Two bodies that are the same up to
    that byte have the same fields before it, and so the walks along both come to the same field. */
 #include "fields.h"

@@ -90,9 +90,9 @@ static inline const char *msft_refusal_word(int64_t reply)
 /* ---- the sheet (its call needs some 150 KB of stack) ---- */
 
 /* The library's sheet. Writes it whole; -1 to -8, -10 to -13. Two sheets are equal exactly if the two
-   libraries have the same description. A sheet that was stored when a reference to no typeinfo (see
-   msft_misplaced_offset) was still laid out as nothing or as a typeinfo's index has to be made again
-   from its library: no call can tell it from another or set it right. */
+   libraries have the same description. A sheet that was stored when a reference that hits no typeinfo
+   (see msft_misplaced_offset) was still laid out as nothing or as a typeinfo's index has to be made
+   again from its library: no call can tell it from another or set it right. */
 int64_t msft_sheet(const uint8_t *lib, size_t lib_len, uint8_t *out, size_t out_len);
 
 /* ---- guid: a GUID, by its place ---- */
@@ -661,8 +661,8 @@ int64_t msft_type_description(
 int64_t msft_imp_file(
     const uint8_t *lib, size_t lib_len, int32_t offset, uint8_t *out, size_t out_len);
 
-/* The index of the typeinfo that an internal hreftype refers to. Writes a u64 (8 bytes); -1 to
-   -5, -9, -12. */
+/* The index of the typeinfo that an internal hreftype refers to: the number divided by 100, whatever
+   is left over (see msft_misplaced_offset). Writes a u64 (8 bytes); -1 to -5, -9, -12. */
 int64_t msft_resolve_hreftype(
     const uint8_t *lib, size_t lib_len, int32_t hreftype, uint8_t *out, size_t out_len);
 
@@ -672,11 +672,11 @@ int64_t msft_resolve_hreftype(
 int64_t msft_resolve_hreftype_full(
     const uint8_t *lib, size_t lib_len, int32_t hreftype, uint8_t *out, size_t out_len);
 
-/* The offset of a reference to no typeinfo. Compilers place typeinfos every 100 bytes; so that is an
-   hreftype that is not negative, whose low two bits are clear, and which is no multiple of 100 without
-   the bit 0x01000000. The sheet has it as such (code 3); the two calls above do not ask for it: they
-   divide by 100, as the Rust does, and have typeinfo 0 for 4. Takes no library. Replies a u32, the
-   hreftype without that bit; -9 for every other hreftype. */
+/* The offset of a reference that hits no typeinfo. Compilers place typeinfos every 100 bytes: such an
+   hreftype is not negative, has its low two bits clear and is, with the bit 0x01000000 cleared, no
+   multiple of 100. The sheet has code 3 for it; to the two calls above, which divide by 100 as the
+   Rust does, 4 is typeinfo 0. Takes no library. Replies a u32, the hreftype with that bit cleared; -9
+   for every other hreftype. */
 int64_t msft_misplaced_offset(int32_t hreftype);
 
 /* The constant that a record's word gives: inline where the word is negative, else at that

@@ -102,7 +102,7 @@ impl Coverage {
         let wanted = Place::all().flat_map(|place| MARKS.map(|mark| (place, mark)));
         wanted
             .filter(|wanted| !self.made_of.misplaced.contains_key(wanted))
-            .map(|wanted| format!("reference to no typeinfo: {}", placed(&wanted)))
+            .map(|wanted| format!("reference that hits no typeinfo: {}", placed(&wanted)))
             .collect()
     }
 }
@@ -123,7 +123,7 @@ impl Display for Coverage {
         let misplaced = parts.misplaced.iter();
         let misplaced = misplaced.map(|(what, times)| (placed(what), *times));
         let misplaced = listed(&misplaced.collect());
-        writeln!(f, "references to no typeinfo: {misplaced}")?;
+        writeln!(f, "references that hit no typeinfo: {misplaced}")?;
         writeln!(f, "inline constants: {}", listed(&parts.inline))?;
         writeln!(f, "stored constants: {}", listed(&parts.stored))?;
         let times: u64 = parts.stored_raw.values().sum();
@@ -241,7 +241,7 @@ mod tests {
                     sheet.expect("it is read");
                 }
             }
-            let missing = format!("reference to no typeinfo: {}", placed(&wanted));
+            let missing = format!("reference that hits no typeinfo: {}", placed(&wanted));
             assert_eq!(coverage.missing_misplaced(), [missing]);
         }
     }

@@ -21,11 +21,15 @@ use Rattle.description.specs.Sheet.{Edition, file, own, import, reference}
 use Rattle.description.specs.Fit.{opt-fits, bit-fits, unresolved-fits, internal-fits, imported-fits, misplaced-fits}
 use Rattle.describe.specs.Values.{Octets, fieldOf}
 use Rattle.describe.specs.References.{fileWith, fileAt, fileOf, ownOf, importOf, isMisplaced, referenceFrom, referenceOf}
-use Rattle.describe.specs.MisplacedLaws.{is-misplaced}
+use Rattle.describe.specs.MisplacedLaws.{misplaced-only-if}
 use Rattle.describe.specs.FieldLaws.{number-lt, field-lt}
 use Rattle.describe.specs.Answers.{IfValue, told, anything, answers-bind, answers-map, answers-value, if-found}
 use Rattle.describe.specs.Cases.{resolved-cases}
 use Rattle.describe.specs.FitValues.{guid-fits, counted-part}
+
+-- a number without a bit of it is no greater
+cleared-le : (h : ℕ) → cleared h ≤ h
+cleared-le h = cond-elim (λ (c : ℕ). c ≤ h) (flagSet dispatchBit h) (h - dispatchBit) h (λ _. omega arith) (λ _. omega arith)
 
 module _ (s : List ℕ) (octets : Octets s) where
   -- a number that is read of a record is below its width's power of 256
@@ -89,14 +93,11 @@ module _ (s : List ℕ) (octets : Octets s) where
           imported-fits e (typeCount lib) (importOf s lib bit (p .at) a) (import-fits bit (p .at) a h)
       from-fits bit (refused n) h k = unresolved-fits e (typeCount lib)
 
-      -- the number without a bit of it is below its width, too
       pub reference-fits : (h : ℕ) → Fits (reference e (typeCount lib)) (referenceOf s lib h)
       unfolding referenceOf
       reference-fits h =
           cond-elim (Fits (reference e (typeCount lib))) (isMisplaced h) _ _
           (λ m.
           misplaced-fits e (typeCount lib) (record { bit = bitsOf 24 1 h; offset = cleared h }) (omega arith)
-          (cond-elim (λ (c : ℕ). c < 256 ^ 4) (flagSet dispatchBit h) (h - dispatchBit) h
-          (λ _. omega (arith, is-misplaced h m .notNegative))
-          (λ _. omega (arith, is-misplaced h m .notNegative))))
+          (omega (arith, cleared-le h, misplaced-only-if h m .notNegative)))
           (λ _. from-fits (bitsOf 24 1 h) (hrefResolved s lib h) (omega arith) (href-inside h))

@@ -1,4 +1,5 @@
--- Document 02, §4: worked cases of a reference, in whole descriptions and whole sheets, as rows of one list.
+-- Document 02, §4: worked cases of a reference, in whole descriptions and whole sheets, as rows of one list: document 01's four
+-- references, its 4 with the bit 0x01000000, 0x02000000, −4, and 104 and 0 in a library of one type.
 use mathlib.Core.Path.{_≡_, refl}
 use mathlib.Core.Option.{none}
 use mathlib.Core.List.{List, [], _∷_, _++_}
@@ -31,7 +32,7 @@ use Rattle.describe.specs.Describe.{headerOf, describeAs, describe}
 
 abbrev pub library : ℕ → ℕ → List ℕ
 library count href =
-    set (zeros 84) 32 count
+    set (zeros 84) 32 count  -- the header, with the count at 0x20
     ++ (joined u32 (tabulate (λ i. 100 * i) count)  -- typeinfos stand every 100 bytes
     ++ (leBytes 4 (324 + 4 * count) ++ (leBytes 4 (100 * count) ++ replicate 232 0)  -- in segment 0, the only one
     ++ (3 ∷ (replicate 83 0 ++ (leBytes 4 href ++ replicate 12 0))  -- kind 3, and `datatype1` at 0x54
@@ -118,7 +119,7 @@ defined r =
     let s : List ℕ = library (r .count) (r .href) in
     (hrefResolved s (libraryOf s) (r .href), (describe edition-one s, map (sheetBytes edition-one) (describe edition-one s)))
 
--- what document 02 says
+-- what the documents say: 01 of the resolver, 02 of description and sheet
 abbrev pub said : Row → Case
 said r = (r .resolved, (value (described (r .count) (r .description)), value (laidOut (r .count) (r .bytes))))
 

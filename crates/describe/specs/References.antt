@@ -1,5 +1,6 @@
--- References (document 01, "The sheet (added)"), as `resolve_hreftype_full` resolves them, but for those to no typeinfo (document 02,
--- §4), which it does not tell from others. `MisplacedLaws` says how the two stand to each other. Assumes nothing.
+-- References (document 01, "The sheet (added)"), as `resolve_hreftype_full` resolves them, but for those that hit no typeinfo (document
+-- 02, §4), which it does not tell from others. `MisplacedLaws` says how the description's reference and that resolver's answer stand to
+-- each other. Assumes nothing.
 use mathlib.Core.Bool.{Bool, true, false, cond, not, _&&_}
 use mathlib.Core.Option.{Option}
 use mathlib.Core.List.{List}
@@ -9,7 +10,7 @@ use Rattle.util.specs.Read.{read, orZero}
 use Rattle.records.specs.declared.answer.Place.{Place}
 use Rattle.records.specs.Answer.{Answer, value, refused, map, bind}
 use Rattle.records.specs.Counted.{fileNameBytes}
-use Rattle.records.specs.Layout.{sizeOf, offsetOf, impFile, impInfo, typeInfoBase}
+use Rattle.records.specs.Layout.{offsetOf, impFile, impInfo}
 use Rattle.records.specs.Record.{bitsOf}
 use Rattle.typelib.specs.declared.TypeLib.{TypeLib}
 use Rattle.typelib.specs.Names.{guidPlace}
@@ -21,9 +22,9 @@ use Rattle.description.specs.Description.Reference.{unresolved, internal, impor
 use Rattle.describe.specs.Values.{found, bytesIn, fieldOf}
 
 -- "Compilers place typeinfos every 100 bytes", the size of one: "a reference not negative, with its low two bits clear, that is not a
--- multiple of 100 after the 0x01000000 bit is cleared" is to none (document 02, §4)
+-- multiple of 100 after the 0x01000000 bit is cleared" hits none (document 02, §4)
 unfoldable pub isMisplaced : ℕ → Bool
-isMisplaced h = not (negative h) && (inThisFile h && not (eqb (cleared h % sizeOf typeInfoBase) 0))
+isMisplaced h = not (negative h) && (inThisFile h && not (eqb (cleared h % 100) 0))
 
 -- "the u32 number so cleared" of such a reference; any other has none
 unfoldable pub misplacedOffset : ℕ → Answer ℕ
@@ -70,7 +71,7 @@ module _ (s : List ℕ) (lib : TypeLib) where
   referenceFrom bit (value (external p file)) = imported (importOf bit (p .at) file)
   referenceFrom bit (refused n) = unresolved
 
-  -- the reference of an hreftype, a 32-bit pattern; its bit 0x01000000 is bit 24. That it is to no typeinfo "comes before the range of
+  -- the reference of an hreftype, a 32-bit pattern; its bit 0x01000000 is bit 24. That it hits no typeinfo "comes before the range of
   -- the index is looked at", and so before anything that it would resolve to.
   unfoldable pub referenceOf : ℕ → Reference
   referenceOf h =

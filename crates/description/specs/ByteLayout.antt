@@ -244,12 +244,6 @@ module _ (e : Edition) (n : ℕ) where
   unfolding reference import bit
   imported-bytes r = refl
 
-  -- "code 3: the bit byte and the u32 number so cleared" (document 02, §4)
-  pub misplaced-bytes : (r : Misplaced)
-      → encode (reference e n) (Reference.misplaced r) ≡ 3 ∷ inOrder (encode u8 (r .bit) ∷ encode u32 (r .offset) ∷ [])
-  unfolding reference misplaced bit
-  misplaced-bytes r = refl
-
 pub file-bytes : (f : File)
     → encode file f
     ≡ inOrder
@@ -261,3 +255,9 @@ pub file-bytes : (f : File)
     ∷ [])
 unfolding file
 file-bytes f = refl
+
+-- and of a reference that hits no typeinfo, "code 3: the bit byte and the u32 number so cleared" (document 02, §4).
+pub misplaced-bytes : (e : Edition) (n : ℕ) (r : Misplaced)
+    → encode (reference e n) (Reference.misplaced r) ≡ 3 ∷ inOrder (encode u8 (r .bit) ∷ encode u32 (r .offset) ∷ [])
+unfolding reference misplaced bit
+misplaced-bytes e n r = refl

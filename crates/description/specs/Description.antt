@@ -1,4 +1,4 @@
--- The description of a library: the nested value made of the fields of document 01, "The sheet (added)".
+-- The description of a library: the nested value made of the fields of document 01, "The sheet (added)", and of document 02, §4.
 --
 -- It holds values, and neither the sheet's bytes nor lengths of bodies: numbers, missing or present (`Option`), lists, trees.
 -- A number is the natural number of its bits, an integer with a sign by its two's complement and a float by its bits. So two
@@ -46,10 +46,11 @@ pub record Internal : Type 0 where
   pub bit : ℕ  -- bit 0x01000000 of the reference, 0 or 1
   pub index : ℕ
 
--- a reference to no typeinfo (document 02, §4)
+-- a reference that hits no typeinfo: "a reference not negative, with its low two bits clear, that is not a multiple of 100 after the
+-- 0x01000000 bit is cleared becomes code 3: the bit byte and the u32 number so cleared" (document 02, §4)
 pub record Misplaced : Type 0 where
   pub bit : ℕ  -- bit 0x01000000 of the reference, 0 or 1
-  pub offset : ℕ  -- "the u32 number so cleared": the byte offset where no typeinfo is
+  pub offset : ℕ  -- the number so cleared: a byte offset, where no typeinfo is
 
 pub data Reference : Type 0 where
   unresolved : Reference  -- 0 nothing

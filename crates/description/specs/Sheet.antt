@@ -52,8 +52,8 @@ unfoldable pub name : Format Bytes
 name = counted u8
 
 -- ---- "Reference: 0 nothing; 1, u8 bit 0x01000000 (0 or 1), u16 index; 2, the same u8, u32 import flags, then opt GUID if
--- flags have 0x10000, else u32 at 0x08; opt file: opt GUID, u32 lcid, u32 version, u16 length, file name." And of document 02, §4:
--- "code 3: the bit byte and the u32 number so cleared."
+-- flags have 0x10000, else u32 at 0x08; opt file: opt GUID, u32 lcid, u32 version, u16 length, file name." And by document 02, §4,
+-- of a reference that hits no typeinfo: "code 3: the bit byte and the u32 number so cleared."
 
 unfoldable pub file : Format File
 file = via file-fields (opt guid & u32 & u32 & counted u16)

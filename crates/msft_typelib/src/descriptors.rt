@@ -85,7 +85,7 @@ pub extern "C" fn msft_resolve_hreftype_full(s: &[u8], hreftype: i32, out: &mut 
     )
 }
 
-// The offset of a reference to no typeinfo. It takes no library.
+// The offset of a reference that hits no typeinfo. It takes no library.
 #[no_mangle]
 pub extern "C" fn msft_misplaced_offset(hreftype: i32) -> i64
     ensures { λ r. ⌜ r ≡ reply (misplacedOffset (ofZ w32 hreftype)) ⌝ }

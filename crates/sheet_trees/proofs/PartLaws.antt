@@ -40,8 +40,8 @@ use Rattle.description.specs.Format.{encode, opt, leBytes}
 use Rattle.description.specs.Description.{Bytes, ownIsGuid, Reference}
 use Rattle.description.specs.Sheet.{edition-one, u32, guid, name, file, bit, import, internal, misplaced, reference}
 use Rattle.describe.specs.Values.{found, bytesIn}
-use Rattle.describe.specs.References.{guidOf, fileOf, ownOf, importOf, misplacedOffset, referenceFrom, referenceOf}
-use Rattle.describe.specs.MisplacedLaws.{HitsNone, offset-there, offset-missing, code-three, as-resolved}
+use Rattle.describe.specs.References.{guidOf, fileOf, ownOf, importOf, referenceFrom, referenceOf}
+use Rattle.describe.specs.MisplacedLaws.{HitsNone, code-three, as-resolved}
 use Rattle.describe.specs.Members.{nameOf, nameBy, memidBy}
 use Rattle.emit.specs.Emit.{countedPart, _▸_}
 use Rattle.emit.specs.Laws.{byte-first}
@@ -125,6 +125,25 @@ memid-missing {x} {n} e = rw e
 
 -- ---- references
 
+-- the bytes of a reference, as an emitter has them
+abbrev emitted : TypeLib → Reference → Answer Bytes
+emitted lib r = value (encode (reference edition-one (typeCount lib)) r)
+
+-- which hreftypes hit a typeinfo, and which none, by what the code asks: the sign, the low two bits, and the number without its bit
+module _ {h : ℕ} where
+  pub not-negative : 0x80000000 ≤ h → HitsNone h → ⊥
+  not-negative k n = omega (arith, n .notNegative)
+
+  pub not-import : (h % 4 ≡ 0 → ⊥) → HitsNone h → ⊥
+  not-import z n = z (n .lowBitsClear)
+
+  module _ {c : ℕ} (e : c ≡ cleared h) where
+    pub not-multiple : c % 100 ≡ 0 → HitsNone h → ⊥
+    not-multiple m n = n .noMultiple (rw (← e) m)
+
+    pub none-hit : h < 0x80000000 → h % 4 ≡ 0 → (c % 100 ≡ 0 → ⊥) → HitsNone h
+    none-hit k z m = record { notNegative = k; lowBitsClear = z; noMultiple = λ p. m (rw e p) }
+
 -- (the code and the bit are put as one number)
 pub internal-is : (bit index : ℕ) → value (leBytes 2 (1 + 256 * bit)) ▸ value (leBytes 2 index) ≡ value (internalBytes bit index)
 unfolding internalBytes
@@ -195,27 +214,20 @@ module _ (s : List ℕ) (lib : TypeLib) where
   unfolding importBytes referenceBytes referenceFrom reference
   resolved-external b r {p} {imp} e = rw e
 
-  -- the reference of an hreftype, by what was found of it
-  abbrev emitted : Reference → Answer Bytes
-  emitted r = value (encode (reference edition-one (typeCount lib)) r)
-
   -- an hreftype that has one of its low two bits set
-  elsewhere : (h : ℕ) → (h % 4 ≡ 0 → ⊥) → referenceFrom s lib (bitsOf 24 1 h) (hrefResolved s lib h) ≡ referenceOf s lib h
-  elsewhere h z = as-resolved s lib h (λ n. z (n .lowBitsClear))
-
   module _ (h : ℕ) {a : ResolvedAnswer} (k : toldResolved a ≡ hrefResolved s lib h) (z : h % 4 ≡ 0 → ⊥) where
     pub reference-some : {b : ℕ} {r : ResolvedHreftype} → b ≡ h / 2 ^ 24 % 2 ^ 1 → a ≡ resolved.Value r
-        → value (referenceBytes lib (referenceFrom s lib b (value (toldHreftype r)))) ≡ emitted (referenceOf s lib h)
+        → value (referenceBytes lib (referenceFrom s lib b (value (toldHreftype r)))) ≡ emitted lib (referenceOf s lib h)
     unfolding referenceBytes
     reference-some {b} {r} g l =
         let m : value (toldHreftype r) ≡ hrefResolved s lib h = sym (ap toldResolved l) ∙ k in
-        rw (g, m) (ap emitted (elsewhere h z))
+        rw (g, m) (ap (emitted lib) (as-resolved s lib h (not-import z)))
 
-    pub reference-none : {m : ℕ} → a ≡ resolved.Refused m → value (0 ∷ []) ≡ emitted (referenceOf s lib h)
+    pub reference-none : {m : ℕ} → a ≡ resolved.Refused m → value (0 ∷ []) ≡ emitted lib (referenceOf s lib h)
     unfolding referenceFrom reference
     reference-none {m} l =
         let q : refused m ≡ hrefResolved s lib h = sym (ap toldResolved l) ∙ k in
-        ap (λ (x : Answer Resolved). emitted (referenceFrom s lib (bitsOf 24 1 h) x)) q ∙ ap emitted (elsewhere h z)
+        ap (λ (x : Answer Resolved). emitted lib (referenceFrom s lib (bitsOf 24 1 h) x)) q ∙ ap (emitted lib) (as-resolved s lib h (not-import z))
 
 -- ---- references in this file
 
@@ -249,47 +261,30 @@ module _ (s : List ℕ) (lib : TypeLib) (h : ℕ) where
   cleared-low : h % 4 ≡ 0 → cleared h % 4 ≡ 0
   cleared-low z = cond-elim (λ (c : ℕ). c % 4 ≡ 0) (flagSet dispatchBit h) (h - dispatchBit) h (λ e. omega (arith, eqb-true (h / dispatchBit % 2) 1 e)) (λ _. z)
 
-  pub in-this-negative : 0x80000000 ≤ h → value (0 ∷ []) ≡ emitted s lib (referenceOf s lib h)
+  pub in-this-negative : 0x80000000 ≤ h → value (0 ∷ []) ≡ emitted lib (referenceOf s lib h)
   unfolding lent referenceFrom reference
-  in-this-negative k = by (ltb limit (length s)) (negative h) (le-leb 0x80000000 h k) ∙ ap (emitted s lib) (as-resolved s lib h (λ n. omega (arith, n .notNegative)))
+  in-this-negative k = by (ltb limit (length s)) (negative h) (le-leb 0x80000000 h k) ∙ ap (emitted lib) (as-resolved s lib h (not-negative k))
     where
-      by : (x y : Bool) → y ≡ true → value (0 ∷ []) ≡ emitted s lib (referenceFrom s lib (bitsOf 24 1 h) (cond x (refused 1) (cond y (refused 9) (resolvedAt s lib (cleared h)))))
+      by : (x y : Bool) → y ≡ true → value (0 ∷ []) ≡ emitted lib (referenceFrom s lib (bitsOf 24 1 h) (cond x (refused 1) (cond y (refused 9) (resolvedAt s lib (cleared h)))))
       by true y e = refl
       by false y e = rw e
 
   -- its bit, and its number without it
   module _ {b c : ℕ} (k : h < 0x80000000) (z : h % 4 ≡ 0) (g : b ≡ h / 2 ^ 24 % 2 ^ 1) (e : c ≡ cleared h) where
-    pub in-this-offset : c % 100 ≡ 0 → value (hereBytes s (typeCount lib) b c) ≡ emitted s lib (referenceOf s lib h)
+    pub in-this-offset : c % 100 ≡ 0 → value (hereBytes s (typeCount lib) b c) ≡ emitted lib (referenceOf s lib h)
     unfolding hereBytes referenceBytes
     in-this-offset m =
         let i = internalIndex (typeCount lib) (cleared h) in
         let r : map here i ≡ resolvedAt s lib (cleared h) = in-this-file s lib (cleared h) (map here i) (cleared-low z) refl in
         let q : map here i ≡ cond (negative h) (refused 9) (resolvedAt s lib (cleared h)) = rw (lt-leb 0x80000000 h k) r in
-        let n = as-resolved s lib h (λ n. n .noMultiple (rw (← e) m)) in
+        let n = as-resolved s lib h (not-multiple e m) in
         rw (g, e)
         (ap value (in-this (bitsOf 24 1 h) i)
-        ∙ ap (λ (a : Answer Resolved). emitted s lib (referenceFrom s lib (bitsOf 24 1 h) (lent s a))) q
-        ∙ ap (emitted s lib) n)
+        ∙ ap (λ (a : Answer Resolved). emitted lib (referenceFrom s lib (bitsOf 24 1 h) (lent s a))) q
+        ∙ ap (emitted lib) n)
 
-    pub in-this-misplaced : (c % 100 ≡ 0 → ⊥) → value (misplacedBytes b c) ≡ emitted s lib (referenceOf s lib h)
+    pub in-this-misplaced : (c % 100 ≡ 0 → ⊥) → value (misplacedBytes b c) ≡ emitted lib (referenceOf s lib h)
     unfolding misplacedBytes reference misplaced bit
     in-this-misplaced m =
-        let n = code-three s lib h (record { notNegative = k; lowBitsClear = z; noMultiple = λ p. m (rw e p) }) in
-        rw (g, e) (ap (emitted s lib) n)
-
--- ---- the offset of a reference to no typeinfo
-
-module _ (h : ℕ) where
-  pub offset-negative : 0x80000000 ≤ h → refused 9 ≡ misplacedOffset h
-  offset-negative k = offset-missing h (λ n. omega (arith, n .notNegative))
-
-  pub offset-elsewhere : (h % 4 ≡ 0 → ⊥) → refused 9 ≡ misplacedOffset h
-  offset-elsewhere z = offset-missing h (λ n. z (n .lowBitsClear))
-
-  module _ {c : ℕ} (e : c ≡ cleared h) where
-    pub offset-multiple : c % 100 ≡ 0 → refused 9 ≡ misplacedOffset h
-    offset-multiple m = offset-missing h (λ n. n .noMultiple (rw (← e) m))
-
-    pub offset-none : h < 0x80000000 → h % 4 ≡ 0 → (c % 100 ≡ 0 → ⊥) → value c ≡ misplacedOffset h
-    offset-none k z m =
-        ap value e ∙ offset-there h (record { notNegative = k; lowBitsClear = z; noMultiple = λ p. m (rw e p) })
+        let n = code-three s lib h (none-hit e k z m) in
+        rw (g, e) (ap (emitted lib) n)

@@ -26,8 +26,8 @@ ghost use Rattle.sheet_trees.specs.Emitted.{fileEmitted, hereEmitted, im
 ghost use Rattle.typelib.specs.Header.{library};
 ghost use Rattle.typelib.specs.Told.{toldOffset};
 
-// The offset of a reference to no typeinfo: one in this library that is no multiple of 100 (document 02, §4). The two resolvers do not
-// ask for it, and divide by 100.
+// The offset of a reference that hits no typeinfo: one that is not negative, has its low two bits clear and is no multiple of 100 once the
+// bit 0x01000000 is cleared (document 02, §4). The two resolvers do not ask for it, and divide by 100.
 pub fn misplaced_offset(hreftype: i32) -> OffsetAnswer
     ensures { λ r. ⌜ toldOffset r ≡ misplacedOffset (ofZ w32 hreftype) ⌝ }
 {
@@ -45,8 +45,8 @@ pub fn misplaced_offset(hreftype: i32) -> OffsetAnswer
     OffsetAnswer::Value(TypeInfoOffset(offset))
 }
 
-// The reference of an hreftype. (Most are to this library's own typeinfos, and need no look at a table. The other way is long and has
-// a caller of its own besides, so that the compiler puts this test alone into the callers.)
+// The reference of an hreftype. (Most are to this library's own typeinfos, and need no look at a table. `put_elsewhere` has a second
+// caller, `put_user` of trees, so that the compiler does not take it in here, and takes this short function into its callers.)
 pub fn put_reference(s: &[u8], lib: &Numbers, href: u32, out: &mut [u8], to: usize) -> usize
     ensures { λ r. ⌜ Emits (referenceEmitted (now (s .entry)) (library (now (lib .entry))) href) to (now (out .entry)) r (now (out .exit)) ⌝ }
 {
@@ -85,7 +85,7 @@ pub(crate) fn put_in_this_file(
     }
     let bit = util::bits(href, 24, 1);
     let offset = TypeInfoOffset(typelib::references::without_dispatch(href));
-    // its index is looked at only where a typeinfo is
+    // the range of its index is looked at only for a multiple of 100
     if offset.0 % 100 == 0 {
         put_here(&*s, lib, bit, offset, out, to)
     } else {

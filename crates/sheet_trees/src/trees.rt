@@ -153,6 +153,7 @@ fn put_base(vt: u16, out: &mut [u8], to: usize) -> usize
     emit::put_le(out, to, 1 + 256 * (vt as u64), 3)
 }
 
+// A reference. (The test of `put_reference` stands here again, so that `put_elsewhere` has two callers.)
 fn put_user(s: &[u8], lib: &Numbers, href: u32, out: &mut [u8], to: usize) -> Level
     ensures { λ r. ⌜ HeadPut (userBytes (now (s .entry)) (library (now (lib .entry))) href) none to (now (out .entry)) r (now (out .exit)) ⌝ }
 {

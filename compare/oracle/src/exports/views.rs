@@ -227,7 +227,7 @@ fn func_attributes() -> Vec<Export> {
     )
 }
 
-/// The readings of numbers alone. The Rust has none that tells a reference to no typeinfo: that one is document 02's.
+/// The readings of numbers alone. The Rust has none that tells a reference that hits no typeinfo: that one is document 02's.
 fn alone() -> Vec<Export> {
     vec![
         export!(Kind msft_kind_from_raw, Asks::RawKind, Alone, |[raw, ..]| {

@@ -87,7 +87,7 @@ pub fn compare(options: &Options) -> ExitCode {
     run.end()
 }
 
-/// Asks the exports that take no library with every number that they can take.
+/// Asks the exports of a kind or a type code with every number that they can take.
 fn without_library(run: &mut Run) {
     run.ask(&Input::new("no library".into(), Vec::new()), |asks, _| {
         let count = match asks {

@@ -36,8 +36,8 @@ const REFERENCES: [(u32, &[u8]); 4] = [
     (0x0100_0064, &[0, 1, 1, 0, 0, 0, 0, 0, 0, 0]),
 ];
 
-/// References in libraries of so many types, and their bytes in a sheet. A resolver gives the first an index all the
-/// same.
+/// References in libraries of so many types, and their bytes in a sheet. A resolver gives those
+/// of 4, with the bit and without, an index all the same.
 const REFERENCES_IN_SHEETS: [(usize, i32, &[u8]); 8] = [
     (2, 4, &[3, 0, 4, 0, 0, 0]),
     (2, 100, &[1, 0, 1, 0]),
