@@ -13,6 +13,19 @@ pub const MARK: i32 = 0x0100_0000;
 /// How many types the libraries have.
 pub const COUNTS: [usize; 2] = [1, 2];
 
+/// The worked cases of document 02's §4 and choice 14, in libraries of so many types: a reference, and its bytes in the
+/// sheet. A resolver gives those of 4, with the bit and without, an index all the same.
+pub const WORKED: [(usize, i32, &[u8]); 8] = [
+    (2, 4, &[3, 0, 4, 0, 0, 0]),
+    (2, 100, &[1, 0, 1, 0]),
+    (2, 200, &[0]),
+    (2, 0x0100_0064, &[1, 1, 1, 0]),
+    (2, 0x0100_0004, &[3, 1, 4, 0, 0, 0]),
+    (2, 0x0200_0000, &[3, 0, 0, 0, 0, 2]),
+    (2, -4, &[0]),
+    (1, 104, &[3, 0, 104, 0, 0, 0]),
+];
+
 /// More bytes than a library has whose sheet the product makes in memory of its own.
 const LONG: usize = 131_073;
 

@@ -265,17 +265,9 @@ fn rich_sheet(base: &[u8]) -> Vec<u8> {
     [contents, library, typeinfo].concat()
 }
 
-/// Document 02's §4 and choice 14, in libraries of so many types: a reference, and its bytes in the sheet.
-const REFERENCES: [(usize, i32, &[u8]); 17] = [
-    (2, 4, &[3, 0, 4, 0, 0, 0]),
-    (2, 100, &[1, 0, 1, 0]),
-    (2, 200, &[0]),
-    (2, 0x0100_0064, &[1, 1, 1, 0]),
-    (2, 0x0100_0004, &[3, 1, 4, 0, 0, 0]),
-    (2, 0x0200_0000, &[3, 0, 0, 0, 0, 2]),
-    (2, -4, &[0]),
+/// More references beside the worked cases, by the same words.
+const REFERENCES: [(usize, i32, &[u8]); 9] = [
     // Before the range of the index is looked at.
-    (1, 104, &[3, 0, 104, 0, 0, 0]),
     (1, 96, &[3, 0, 96, 0, 0, 0]),
     (1, 0x0100_0068, &[3, 1, 104, 0, 0, 0]),
     (1, 0x7FFF_FFFC, &[3, 1, 0xFC, 0xFF, 0xFF, 0x7E]),
@@ -291,7 +283,7 @@ const REFERENCES: [(usize, i32, &[u8]); 17] = [
 
 #[test]
 fn references_that_hit_no_typeinfo_are_told_in_every_field() {
-    for (count, reference, written) in REFERENCES {
+    for (count, reference, written) in misplaced::WORKED.into_iter().chain(REFERENCES) {
         for place in Place::all() {
             let library = misplaced::library(count, place, reference);
             let right = sheet_around(count, place, written);

@@ -36,19 +36,6 @@ const REFERENCES: [(u32, &[u8]); 4] = [
     (0x0100_0064, &[0, 1, 1, 0, 0, 0, 0, 0, 0, 0]),
 ];
 
-/// References in libraries of so many types, and their bytes in a sheet. A resolver gives those
-/// of 4, with the bit and without, an index all the same.
-const REFERENCES_IN_SHEETS: [(usize, i32, &[u8]); 8] = [
-    (2, 4, &[3, 0, 4, 0, 0, 0]),
-    (2, 100, &[1, 0, 1, 0]),
-    (2, 200, &[0]),
-    (2, 0x0100_0064, &[1, 1, 1, 0]),
-    (2, 0x0100_0004, &[3, 1, 4, 0, 0, 0]),
-    (2, 0x0200_0000, &[3, 0, 0, 0, 0, 2]),
-    (2, -4, &[0]),
-    (1, 104, &[3, 0, 104, 0, 0, 0]),
-];
-
 /// The answers for the sheet of a library that holds nothing, each behind a 0: how many bytes it has, and these: type
 /// count, body length 10, two words, no GUID, no name.
 const EMPTY_SHEET: [&[u8]; 2] = [
@@ -66,7 +53,7 @@ pub fn libraries() -> Vec<Library> {
         Ask::ResolveHreftypeFull,
         &REFERENCES,
     ));
-    libraries.extend(REFERENCES_IN_SHEETS.map(|(count, reference, written)| {
+    libraries.extend(misplaced::WORKED.map(|(count, reference, written)| {
         let [length, sheet] = base_sheet(count, written);
         let library = base_library(count, reference);
         expect(library, Ask::Sheet, &[&length, &sheet])
