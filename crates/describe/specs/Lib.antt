@@ -22,6 +22,8 @@ pub mod FitTypes
 pub mod Fit
 pub mod Demand3
 pub mod Refusals
+pub mod ParsedLaws
+pub mod Figures
 pub mod HeldLaws
 pub mod DimensionLaws
 pub mod Edges

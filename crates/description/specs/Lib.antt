@@ -6,4 +6,5 @@ pub mod Sheet
 pub mod ByteLayout
 pub mod Fit
 pub mod Laws
+pub mod Figures
 pub mod Edges

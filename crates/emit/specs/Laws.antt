@@ -163,7 +163,7 @@ put-elim P n f g = cond-elim P (leb n past) (At n) (Refused ((n - suc past) % 25
 at-place : (n : ℕ) {p : ℕ} → put n ≡ At p → n ≤ past
 at-place n {p} = put-elim (λ t. t ≡ At p → n ≤ past) n (λ h e. h) (λ h e. absurd (let z : _≡_ {A = ℕ} 0 1 = cc in omega arith))
 
-put-moved : (p : ℕ) (bs : Bytes) → put (advance p (length bs)) ≡ moved (put p) (value bs)
+pub put-moved : (p : ℕ) (bs : Bytes) → put (advance p (length bs)) ≡ moved (put p) (value bs)
 unfolding advance
 put-moved p bs =
     put-elim (λ t. put (max p (min (p + length bs) past)) ≡ moved t (value bs)) p

@@ -23,8 +23,10 @@ use Rattle.table_cursors.specs.Cursors.{guidsOf, impFileStep, impFilesOf, impor
 use Rattle.table_cursors.specs.Members.{memberName}
 use Rattle.table_cursors.specs.declared.iterators.ImpFileCursor.{ImpFileCursor}
 use Rattle.table_cursors.specs.declared.iterators.TypeInfoCursor.{TypeInfoCursor}
+use Rattle.description.specs.Sheet.{edition-one}
+use Rattle.describe.specs.Figures.{figuresOf}
 use Rattle.replies.specs.Call.{inLibrary, kindNumber}
-use Rattle.rows.specs.Values.{chainCursor, constant, cursor, description, funcNumbers, guidNumbers, impFileNumbers, importNumbers, nameNumbers, pair, paramNumbers, place, reference, size, step, typeinfoNumbers, varNumbers}
+use Rattle.rows.specs.Values.{chainCursor, constant, cursor, description, figures, funcNumbers, guidNumbers, impFileNumbers, importNumbers, nameNumbers, pair, paramNumbers, place, reference, size, step, typeinfoNumbers, varNumbers}
 
 -- ---- of a record
 
@@ -151,3 +153,9 @@ typeinfoStepRow s c = inLibrary s (λ lib. step typeinfoNumbers (typeinfoStep s 
 
 abbrev pub typesLeftRow : List ℕ → ℕ → Answer (List ℕ)
 typesLeftRow s index = inLibrary s (λ lib. value (size (typeCount lib - index)))
+
+-- ---- the sheet
+
+-- the figures of a library's sheet
+abbrev pub figuresRow : List ℕ → Answer (List ℕ)
+figuresRow s = map figures (figuresOf edition-one s)

@@ -18,7 +18,7 @@ ghost use Rattle.typelib.specs.References.{external};
 ghost use Rattle.describe.specs.Constants.{numberIn, placeIn};
 ghost use Rattle.sheet_constants.specs.Told.{toldContent, toldShape};
 ghost use Rattle.rows.specs.Told.{numbersOf, toldRow};
-ghost use Rattle.rows.specs.Values.{eights, place, optPlace, reference, span, contentBytes, constant, nameEntry, nameNumbers};
+ghost use Rattle.rows.specs.Values.{eights, fiveWords, place, optPlace, reference, span, contentBytes, constant, nameEntry, nameNumbers};
 ghost use Rattle.emit.specs.Emit.{Emits};
 
 fn put_longs(out: &mut [u8], to: usize, l: Longs) -> usize
@@ -192,6 +192,17 @@ fn put_name_step(out: &mut [u8], to: usize, e: NameEntry, number: u64, c: NameCu
     )
 }
 
+// Five words.
+fn put_figures(out: &mut [u8], to: usize, a: u32, b: u32, c: u32, d: u32, e: u32) -> usize
+    ensures { λ r. ⌜ Emits (value (fiveWords a b c d e)) to (now (out .entry)) r (now (out .exit)) ⌝ }
+{
+    let t = emit::put_u32(out, to, a);
+    let t = emit::put_u32(out, t, b);
+    let t = emit::put_u32(out, t, c);
+    let t = emit::put_u32(out, t, d);
+    emit::put_u32(out, t, e)
+}
+
 // The bytes of a row, or its refusal.
 pub fn put_row(out: &mut [u8], to: usize, row: Row) -> usize
     ensures { λ r. ⌜ Emits (toldRow row) to (now (out .entry)) r (now (out .exit)) ⌝ }
@@ -222,6 +233,7 @@ pub fn put_row(out: &mut [u8], to: usize, row: Row) -> usize
         Row::Import(p, file) => put_import(out, to, p, file),
         Row::Constant(v) => put_constant(out, to, v),
         Row::Entry(e, number, c) => put_name_step(out, to, e, number, c),
+        Row::Figures(a, b, c, d, e) => put_figures(out, to, a, b, c, d, e),
         Row::Refused(n) => emit::put_refusal(to, n),
     }
 }

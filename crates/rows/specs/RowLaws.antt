@@ -97,4 +97,5 @@ row-short (row.Word m a) = simp length-leBytes (omega arith)
 row-short (row.Import p f) = simp (length-append, length-leBytes) (omega (arith, opt-short (toldImpFile f)))
 row-short (row.Constant v) = omega (arith, constant-short v)
 row-short (row.Entry e number c) = simp (length-append, length-leBytes) (omega arith)
+row-short (row.Figures a b c d e) = simp (length-append, length-leBytes) (omega arith)
 row-short (row.Refused n) = omega arith

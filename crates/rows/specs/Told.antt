@@ -5,7 +5,7 @@ use Rattle.records.specs.Answer.{Answer, value, refused}
 use Rattle.typelib.specs.Told.{toldImpFile}
 use Rattle.typelib.specs.References.{external}
 use Rattle.description.specs.Format.{leBytes}
-use Rattle.rows.specs.Values.{eights, reference, constant, nameEntry, nameNumbers}
+use Rattle.rows.specs.Values.{eights, fiveWords, reference, constant, nameEntry, nameNumbers}
 use Rattle.rows.specs.declared.row.Longs.{Longs}
 use Rattle.rows.specs.declared.row.Longs.the-variants as longs
 use Rattle.rows.specs.declared.row.Row.{Row}
@@ -30,4 +30,5 @@ toldRow (row.Word m a) = value (m ∷ leBytes 4 a)
 toldRow (row.Import p f) = value (reference (external p (toldImpFile f)))
 toldRow (row.Constant v) = value (constant v)
 toldRow (row.Entry e number c) = value (nameEntry e ++ eights (number ∷ nameNumbers c))
+toldRow (row.Figures a b c d e) = value (fiveWords a b c d e)
 toldRow (row.Refused n) = refused n

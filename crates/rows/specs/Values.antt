@@ -28,6 +28,7 @@ use Rattle.cursors.specs.Numbers.{Step, yielded, ended}
 use Rattle.typelib.specs.References.{Resolved, internal, external}
 use Rattle.description.specs.Format.{leBytes}
 use Rattle.description.specs.Description.{Shape, shapeOf}
+use Rattle.description.specs.Figures.{Figures}
 use Rattle.describe.specs.Constants.{Content, contentOf, numberIn, placeIn}
 
 -- each number in eight bytes
@@ -52,6 +53,13 @@ bound b = leBytes 4 (b .elements) ++ leBytes 4 (ofZ w32 (b .lower))
 
 abbrev pub pair : WordPair → List ℕ
 pair w = leBytes 4 (w .first) ++ leBytes 4 (w .second)
+
+-- the figures of a sheet, four bytes each, "in the order length, functions, parameters, variables, references" (choice 18 of document 02)
+abbrev pub fiveWords : ℕ → ℕ → ℕ → ℕ → ℕ → List ℕ
+fiveWords a b c d e = leBytes 4 a ++ (leBytes 4 b ++ (leBytes 4 c ++ (leBytes 4 d ++ leBytes 4 e)))
+
+abbrev pub figures : Figures → List ℕ
+figures f = fiveWords (f .length) (f .functions) (f .parameters) (f .variables) (f .references)
 
 -- ---- descriptions of types, references and constants, each behind a code
 

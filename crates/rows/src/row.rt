@@ -30,5 +30,7 @@ pub enum Row {
     Constant(ConstValue),
     // An entry, its number, and the cursor behind it.
     Entry(NameEntry, u64, NameCursor),
+    // A sheet's length, and what it reads: functions, parameters, variables, references.
+    Figures(u32, u32, u32, u32, u32),
     Refused(u8),
 }

@@ -9,15 +9,13 @@ use lib.Seq.{take-nil, length-take-le}
 use borrow.Author.Tests.{le-leb, lt-leb, lt-ltb, le-ltb}
 use Rattle.records.specs.Answer.{Answer, value, refused, map, bind}
 use Rattle.records.specs.Record.{limit}
-use Rattle.typelib.specs.declared.TypeLib.{TypeLib}
 use Rattle.typelib.specs.declared.Parsed.{Parsed}
 use Rattle.typelib.specs.Header.{parseOf, parsed, typeCount}
 use Rattle.description.specs.Description.{Bytes}
 use Rattle.description.specs.Sheet.{edition-one, sheetBytes}
 use Rattle.describe.specs.Values.{Octets}
 use Rattle.describe.specs.Describe.{headerOf, typesOf, describeAs, describe}
-use Rattle.describe.specs.Answers.{answers-refused}
-use Rattle.describe.specs.Refusals.{parse-sound}
+use Rattle.describe.specs.ParsedLaws.{parse-refused, parse-read}
 use Rattle.describe.specs.Call.{within, sheetOf, written, Call}
 use Rattle.emit.specs.Emit.{Put}
 use Rattle.emit.specs.Emit.{At, Refused, past, put}
@@ -101,42 +99,23 @@ module _ (size : ℕ) where
 
 -- ---- parsing first
 
--- a library whose number is 0 was parsed, and another number is the refusal's
-parsed-refused : (a : Answer TypeLib) {n : ℕ} → (parsed a) .number ≡ n → (n ≡ 0 → ⊥) → a ≡ refused n
-parsed-refused (value lib) e h = absurd (h (sym e))
-parsed-refused (refused m) e h = ap refused e
-
-parsed-value : (a : Answer TypeLib) → (parsed a) .number ≡ 0 → (a ≡ refused 0 → ⊥) → a ≡ value ((parsed a) .lib)
-parsed-value (value lib) e h = refl
-parsed-value (refused m) e h = absurd (h (ap refused e))
-
--- no refusal has the number 0
-never-zero : (s : List ℕ) → parseOf s ≡ refused 0 → ⊥
-never-zero s e = answers-refused (parse-sound s) e
-
 joined-answer : {A : Type 0} (f : A → Bytes) (room : ℕ) (a : Answer A) → bind a (λ d. within room (f d)) ≡ bind (map f a) (within room)
 joined-answer f room (value d) = refl
 joined-answer f room (refused n) = refl
 
 module _ (s : List ℕ) (octets : Octets s) (p : Parsed) (e : p ≡ parsed (parseOf s)) where
-  number : (parsed (parseOf s)) .number ≡ p .number
-  number = ap (λ (x : Parsed). x .number) (sym e)
-
   pub call-refused : {o : List ℕ} → (p .number ≡ 0 → ⊥) → Call edition-one s o (refused (p .number)) o
   unfolding sheetOf describe written
-  call-refused h = let q : parseOf s ≡ refused (p .number) = parsed-refused (parseOf s) number h in record { replies = rw q; leaves = rw q; octets = octets }
+  call-refused h = record { replies = rw (parse-refused s p e h); leaves = rw (parse-refused s p e h); octets = octets }
 
   module _ (zero : p .number ≡ 0) where
-    library : parseOf s ≡ value (p .lib)
-    library = parsed-value (parseOf s) (number ∙ zero) (never-zero s) ∙ ap (λ (x : Parsed). value (x .lib)) (sym e)
-
     pub call-many : {o : List ℕ} → 65535 < typeCount (p .lib) → Call edition-one s o (refused 13) o
     unfolding sheetOf describe describeAs written
-    call-many h = record { replies = rw (library, lt-ltb 65535 (typeCount (p .lib)) h); leaves = rw (library, lt-ltb 65535 (typeCount (p .lib)) h); octets = octets }
+    call-many h = record { replies = rw (parse-read s p e zero, lt-ltb 65535 (typeCount (p .lib)) h); leaves = rw (parse-read s p e zero, lt-ltb 65535 (typeCount (p .lib)) h); octets = octets }
 
     is-emitted : (room : ℕ) → typeCount (p .lib) ≤ 65535 → sheetOf edition-one s room ≡ bind (sheetEmitted s (p .lib)) (within room)
     unfolding sheetOf describe describeAs sheetEmitted
-    is-emitted room h = rw (library, le-ltb 65535 (typeCount (p .lib)) h) (joined-answer (sheetBytes edition-one) room (map (λ types. record { header = headerOf s (p .lib); types = types }) (typesOf s (p .lib))))
+    is-emitted room h = rw (parse-read s p e zero, le-ltb 65535 (typeCount (p .lib)) h) (joined-answer (sheetBytes edition-one) room (map (λ types. record { header = headerOf s (p .lib); types = types }) (typesOf s (p .lib))))
 
     pub call-answered : {o o′ : List ℕ} {r : Answer ℕ} → typeCount (p .lib) ≤ 65535 → Answered (sheetEmitted s (p .lib)) o r o′ → Call edition-one s o r o′
     call-answered {o} {o′} {r} h a =

@@ -28,7 +28,11 @@ use Rattle.emit.specs.Emit.{At, Refused, past, put}
 use Rattle.emit.specs.Emit.{_▸_, advance, moved, Emitted, overwritten, Overwritten}
 use Rattle.emit.specs.Laws.{put-at, put-refused, sets-append, sets-append-front, sets-front, take-sets, take-less, advance-within, moved-join, skip, known, over-room, over-keeps, over-before}
 use Rattle.sheet_members.specs.Lists.{layAll, all-laid, Sized, sized, unsized, all-sized}
-use Rattle.sheet_members.specs.Bodies.{bodies, bodies-more}
+use Rattle.sheet_members.specs.Bodies.{types-length, bodies, bodies-more}
+use Rattle.description.specs.Figures.{Figures, countedIn}
+use Rattle.sheet_sizes.specs.declared.Count.{Count}
+use Rattle.sheet_sizes.specs.Counts.{figures, So, counted, countsAt, counts, CountingAll}
+use Rattle.sheet_sizes.specs.Counted.{libraryCounted}
 use Rattle.sheet.specs.Contents.{sheetEmitted, lenOf, lensOf, distanced, Patched, LaidTwo, sparedTwo, Twofold}
 
 pub header-is : (s : List ℕ) (lib : TypeLib) {g n : ℕ} → g ≡ orZero (read 4 s (0 + 8)) → n ≡ orZero (read 4 s (0 + 56))
@@ -263,11 +267,6 @@ module _ {A : Type 0} (F : Format A) where
       by-answers (value a) (refused n) = refl
       by-answers (refused n) y = refl
 
-types-length : (s : List ℕ) (lib : TypeLib) (n i : ℕ) → length (typesFrom s lib n i) ≡ n
-unfolding typesFrom
-types-length s lib zero i = refl
-types-length s lib (suc n) i = ap suc (types-length s lib n (i + 1))
-
 sheet-laid : (h : Header) (n : ℕ) (y : Answer (List TypeInfo)) → Sized (typeInfo edition-one n) n y
     → value (leBytes 4 n) ▸ ((value (leBytes 4 (length (encode header h))) ▸ map (lengths (typeInfo edition-one n)) y) ▸ (value (encode header h) ▸ map (joined (typeInfo edition-one n)) y))
     ≡ map (sheetBytes edition-one) (map (λ types. record { header = h; types = types }) y)
@@ -278,6 +277,25 @@ sheet-laid h n y (sized {ys = ys} e) =
     (sym (append-assoc (leBytes 4 m) (leBytes 4 (length (encode header h)) ++ lengths (typeInfo edition-one m) ys) (encode header h ++ joined (typeInfo edition-one m) ys))
     ∙ sym (sheet-bytes edition-one (record { header = h; types = ys })))
 sheet-laid h n y unsized = refl
+
+-- a count's place moves as the bytes do
+first-figure : {A : Type 0} (c : Count) (bytes : A → Bytes) (counts-of : A → Figures) → ((a : A) → counts-of a .length ≡ length (bytes a)) → (a : Answer A)
+    → CountingAll (map counts-of a) c → put (c .to) ≡ moved (put 0) (map bytes a)
+unfolding counts
+first-figure {A} c bytes counts-of e a k =
+    by (put (c .to)) a (k .is ∙ ap (λ (t : Put). counted (countsAt t 0 0 0 0) (map counts-of a)) first) ∙ ap (λ (t : Put). moved t (map bytes a)) (sym first)
+  where
+    first : put 0 ≡ At 0
+    first = put-at 0 (omega arith)
+
+    by : (t : Put) (a : Answer A) → countsAt t (c .functions) (c .parameters) (c .variables) (c .references) ≡ counted (So (figures 0 0 0 0 0)) (map counts-of a) → t ≡ moved (At 0) (map bytes a)
+    by (At q) (value x) h =
+        let f : Figures = counts-of x in
+        let g : figures q (c .functions) (c .parameters) (c .variables) (c .references) ≡ figures (advance 0 (f .length)) (advance 0 (f .functions)) (advance 0 (f .parameters)) (advance 0 (f .variables)) (advance 0 (f .references)) = cc in
+        ap At (ap (λ (y : Figures). y .length) g ∙ ap (advance 0) (e x))
+    by (At q) (refused n) h = absurd (let z : _≡_ {A = ℕ} 0 1 = cc in omega arith)
+    by (Refused m) (value x) h = absurd (let z : _≡_ {A = ℕ} 0 1 = cc in omega arith)
+    by (Refused m) (refused n) h = let z : m ≡ n = cc in ap Refused z
 
 -- its parts, for a library
 module _ (s : List ℕ) (lib : TypeLib) where
@@ -310,14 +328,7 @@ module _ (s : List ℕ) (lib : TypeLib) where
       rw first
       (known parts-are (whole (omega (arith, few)) both-parts (rw (e, first) at a) (two-more (rw (e, start-at few) at h) (rw (e, start-at few) at p) w)))
 
-  -- where it ends, by the lengths of its parts
-  pub sheet-size : {n : ℕ} {t r : Put} {o o′ : List ℕ} → n ≡ typeCount lib → typeCount lib ≤ 65535
-      → Emitted (value own-body) (put (8 + 4 * n)) o t o′ → r ≡ moved t (layAll form bodies-of) → r ≡ moved (put 0) (sheetEmitted s lib)
-  sheet-size {n} {t} e few h w =
-      w
-      ∙ ap (λ (u : Put). moved u (layAll form bodies-of)) (h .moves ∙ ap (λ (m : ℕ). moved (put (8 + 4 * m)) (value own-body)) e)
-      ∙ moved-join (value own-body) (layAll form bodies-of) (put (8 + 4 * typeCount lib))
-      ∙ ap (λ (u : Put). moved u (value own-body ▸ layAll form bodies-of)) (start-at few)
-      ∙ whole-moves (omega (arith, few)) both-parts
-      ∙ ap (moved (At 0)) parts-are
-      ∙ ap (λ (u : Put). moved u (sheetEmitted s lib)) (sym (put-at 0 (omega arith)))
+  -- where it ends, by what was counted
+  pub sheet-size : {c : Count} → CountingAll (libraryCounted s lib) c → put (c .to) ≡ moved (put 0) (sheetEmitted s lib)
+  unfolding sheetEmitted libraryCounted
+  sheet-size {c} k = first-figure c (sheetBytes edition-one) (countedIn edition-one) (λ d. refl) (map (λ types. record { header = headerOf s lib; types = types }) (all bodies-of)) k

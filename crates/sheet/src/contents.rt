@@ -1,5 +1,6 @@
 // The contents and the bodies of a sheet. The contents are the count of types and the length of each body; a length is known
 // once its body is emitted, and is put into the contents then.
+use sheet_sizes::TYPE_LENGTHS;
 use sheet_trees::values;
 use typelib::Numbers;
 use typelib::TypeInfoIndex;
@@ -10,10 +11,8 @@ ghost use Rattle.emit.specs.Emit.{put, moved, Emits};
 ghost use Rattle.sheet.specs.Contents.{sheetEmitted, Patched, BodiesPut, SheetPut, headerEmitted};
 ghost use Rattle.typelib.specs.Header.{library, typeCount};
 
-// Where the contents have the length of the library's body, and of the first type's.
+// Where the contents have the length of the library's body.
 const LIBRARY_LENGTH: usize = 4;
-
-const TYPE_LENGTHS: usize = 8;
 
 // The whole sheet, unless it passes the place `most`: then the last place, and what was emitted is of no use.
 pub(crate) fn put_sheet(s: &[u8], lib: &Numbers, most: usize, out: &mut [u8]) -> usize
@@ -30,13 +29,10 @@ pub(crate) fn put_sheet(s: &[u8], lib: &Numbers, most: usize, out: &mut [u8]) ->
 
 // Where the whole sheet would end, or its refusal.
 pub(crate) fn end_of_sheet(s: &[u8], lib: &Numbers) -> usize
-    requires { ⌜ typeCount (library (now lib)) ≤ 65535 ⌝ }
     ensures { λ r. ⌜ put r ≡ moved (put 0) (sheetEmitted (now (s .entry)) (library (now (lib .entry)))) ⌝ }
 {
-    let mut none = [0u8; 0];
-    let start = TYPE_LENGTHS + 4 * (tables::count(lib) as usize);
-    let t = put_header(&*s, lib, &mut none, start);
-    sheet_sizes::types(&*s, lib, t)
+    let c = sheet_sizes::count_sheet(&*s, lib);
+    c.to
 }
 
 // The library's own body.

@@ -1,6 +1,7 @@
 // The sheet of a library: its description laid out in bytes (document 01, "The sheet (added)"). Two sheets are equal exactly
 // when the two libraries have the same description (`demand-3` of describe/specs/Demand3.antt, over this call's contract).
 use records::answer::UsizeAnswer;
+use sheet_sizes::MOST_TYPES;
 use typelib::Numbers;
 use typelib::TypeLib;
 ghost use Prim.Native.Nat.{_≤_};
@@ -13,8 +14,6 @@ ghost use Rattle.typelib.specs.Header.{library, typeCount};
 mod contents;
 
 const LIMIT: usize = 16_777_216;
-
-const MOST_TYPES: u32 = 65_535;
 
 // The longest libraries whose sheets are made in memory of the call's own.
 const SMALL: usize = 16_384;

@@ -127,7 +127,7 @@ module _ (s : List ℕ) (lib : TypeLib) where
     unfolding shapeEmitted
     base-aliased {x} k e h = ap (λ y. map (encode (tree edition-one (typeCount lib))) (treeOf s lib y)) e ∙ shaped k aliased (ap baseShapeOf h)
 
-    absent-shape : (k : ℕ) → (k ≡ 3 → ⊥) → (k ≡ 4 → ⊥) → (k ≡ 5 → ⊥) → (k ≡ 6 → ⊥) → baseShapeOf k ≡ absent
+    pub absent-shape : (k : ℕ) → (k ≡ 3 → ⊥) → (k ≡ 4 → ⊥) → (k ≡ 5 → ⊥) → (k ≡ 6 → ⊥) → baseShapeOf k ≡ absent
     absent-shape zero a b c d = refl
     absent-shape (suc zero) a b c d = refl
     absent-shape (suc (suc zero)) a b c d = refl

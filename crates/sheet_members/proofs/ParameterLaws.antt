@@ -54,7 +54,7 @@ module _ (s : List ℕ) where
     abbrev pub after : ℕ → ParamCursor
     after i = record { pos = c .pos + 12 * i; end = c .end; remaining = c .remaining - i; yielded = numberOf i }
 
-    step : (i : ℕ) → Room s c → i < c .remaining → yielded (record { at = c .pos + 12 * i; len = 12 }) (numberOf i) (after (i + 1)) ≡ paramStep s (after i)
+    pub step : (i : ℕ) → Room s c → i < c .remaining → yielded (record { at = c .pos + 12 * i; len = 12 }) (numberOf i) (after (i + 1)) ≡ paramStep s (after i)
     step i r h =
         let at : BlockAt = overParams .stands (after i) in
         let e : value (record { at = c .pos + 12 * i; len = 12 }) ≡ lent s (paramAt s at) =
@@ -66,7 +66,7 @@ module _ (s : List ℕ) where
         rw (p, q) (step-found overParams (paramNext s) (after i) _ _ (numberOf (i + 1)) (ap (paramNextFrom at) e) (sym (number-next i)))
 
     -- it is the one that was given before any step
-    after-none : Room s c → after 0 ≡ c
+    pub after-none : Room s c → after 0 ≡ c
     unfolding numberOf
     after-none r =
         let p : c .pos + 12 * 0 ≡ c .pos = omega arith in

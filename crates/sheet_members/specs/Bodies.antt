@@ -1,8 +1,9 @@
 -- The bodies of a library's types, one behind the other: a turn of a loop over them, and its end. Assumes nothing.
-use mathlib.Core.Path.{_≡_}
+use mathlib.Core.Path.{_≡_, refl, ap}
 use mathlib.Core.List.{List, []}
-use Prim.Native.Nat.{ℕ, suc, _+_, _-_, _≤_, _<_}
+use Prim.Native.Nat.{ℕ, zero, suc, _+_, _-_, _≤_, _<_}
 use native.Mathlib.Omega.{arith}
+use lib.ListN.{length}
 use Rattle.records.specs.Answer.{Answer, value, map}
 use Rattle.typelib.specs.declared.TypeLib.{TypeLib}
 use Rattle.typelib.specs.Header.{typeCount}
@@ -14,6 +15,11 @@ use Rattle.emit.specs.Emit.{_▸_}
 use Rattle.sheet_members.specs.Lists.{layAll}
 
 module _ (s : List ℕ) (lib : TypeLib) where
+  pub types-length : (n i : ℕ) → length (typesFrom s lib n i) ≡ n
+  unfolding typesFrom
+  types-length zero i = refl
+  types-length (suc n) i = ap suc (types-length n (i + 1))
+
   -- those of n types from type i on
   abbrev pub bodies : ℕ → ℕ → Answer Bytes
   bodies n i = layAll (typeInfo edition-one (typeCount lib)) (typesFrom s lib n i)

@@ -1,3 +1,9 @@
 -- Laws that the proofs cite.
-mod ChainLaws
+mod CountLaws
 mod SizeLaws
+mod TreeLaws
+mod MemberLaws
+mod ChainLaws
+mod BaseLaws
+mod TypeLaws
+mod CallLaws

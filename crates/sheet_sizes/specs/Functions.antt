@@ -1,4 +1,4 @@
--- Where a function would end. Assumes nothing.
+-- A function by its identifier and the offset of its name. Assumes nothing.
 use mathlib.Core.Path.{_≡_}
 use mathlib.Core.List.{List}
 use Prim.Native.Nat.{ℕ}
@@ -10,11 +10,12 @@ use Rattle.member_records.specs.declared.func.FuncRecord.{FuncRecord}
 use Rattle.typelib.specs.declared.TypeLib.{TypeLib}
 use Rattle.typelib.specs.TypeInfos.{funcMemid, funcNameOffset}
 use Rattle.describe.specs.Values.{found}
-use Rattle.sheet_members.specs.Emitted.{functionEmitted}
-use Rattle.sheet_sizes.specs.Measured.{Measured}
+use Rattle.sheet_sizes.specs.declared.Count.{Count}
+use Rattle.sheet_sizes.specs.Counted.{functionCounted}
+use Rattle.sheet_sizes.specs.Counts.{Counting}
 
 -- the function of a record, with that identifier and that offset of its name: of any type, at any index, that have these two
-abbrev pub FunctionMeasured : List ℕ → TypeLib → Answer ℤ → Answer ℤ → FuncRecord → ℕ → ℕ → Type 0
-FunctionMeasured s lib memid offset func to r =
+abbrev pub FunctionCounted : List ℕ → TypeLib → Answer ℤ → Answer ℤ → FuncRecord → Count → Count → Type 0
+FunctionCounted s lib memid offset func from r =
     (ti : TypeInfoEntry) (i : ℕ) → found memid ≡ found (signed32 (funcMemid s ti i)) → found offset ≡ found (signed32 (funcNameOffset s ti i))
-    → Measured (functionEmitted s lib ti i func) to r
+    → Counting (functionCounted s lib ti i func) from r

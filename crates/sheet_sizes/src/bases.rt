@@ -1,4 +1,6 @@
 // What a type is based on.
+use crate::Ends;
+use crate::trees;
 use impltypes::ImplTypeCursor;
 use impltypes::ImplTypeStep;
 use impltypes::ImplTypesAnswer;
@@ -7,48 +9,74 @@ use records::refrecord::RefRecord;
 use records::typeinfo::TypeInfoEntry;
 use sheet_trees::references;
 use typelib::Numbers;
-ghost use Rattle.sheet_bases.specs.Bases.{baseEmitted, chainEmitted, implTypeEmitted, implTypesEmitted};
-ghost use Rattle.sheet_sizes.specs.Measured.{Measured};
+ghost use Rattle.sheet_bases.specs.Bases.{implTypeEmitted};
+ghost use Rattle.sheet_sizes.specs.Counted.{baseCounted, chainCounted, implTypesCounted, referenceCounted};
+ghost use Rattle.sheet_sizes.specs.Counts.{Ending, Measured};
 ghost use Rattle.typelib.specs.Header.{library};
 
-// The base of a type of that kind: by its emitter, over an output with no room, unless it is a chain.
-pub(crate) fn after_base(s: &[u8], lib: &Numbers, ti: TypeInfoEntry, kind: u32, to: usize) -> usize
-    ensures { λ r. ⌜ Measured (baseEmitted (now (s .entry)) (library (now (lib .entry))) ti kind) to r ⌝ }
+// The base of a type of that kind.
+pub(crate) fn after_base(s: &[u8], lib: &Numbers, ti: TypeInfoEntry, kind: u32, from: Ends) -> Ends
+    ensures { λ r. ⌜ Ending (baseCounted (now (s .entry)) (library (now (lib .entry))) ti kind) from r ⌝ }
 {
-    if kind == 5 {
-        return after_chain(&*s, lib, ti, to);
+    match kind {
+        3 => after_parent(&*s, lib, emit::word_at(s, ti.at, 0x54), from),
+        4 => after_parent(&*s, lib, emit::word_at(s, ti.at, 0x54), from),
+        5 => after_chain(&*s, lib, ti, from),
+        6 => trees::after_tree(&*s, lib, emit::word_at(s, ti.at, 0x54), from),
+        _ => from,
     }
+}
+
+// The interface under a type. (A reference is measured by its emitter, over an output with no room.)
+fn after_parent(s: &[u8], lib: &Numbers, href: u32, from: Ends) -> Ends
+    ensures { λ r. ⌜ Ending (referenceCounted (now (s .entry)) (library (now (lib .entry))) href) from r ⌝ }
+{
     let mut none = [0u8; 0];
-    sheet_bases::put_base(&*s, lib, ti, kind, &mut none, to)
+    Ends {
+        to: references::put_reference(&*s, lib, href, &mut none, from.to),
+        references: crate::ahead(from.references, 1),
+    }
 }
 
 // The chain of implemented types: its count, and each.
-fn after_chain(s: &[u8], lib: &Numbers, ti: TypeInfoEntry, to: usize) -> usize
-    ensures { λ r. ⌜ Measured (implTypesEmitted (now (s .entry)) (library (now (lib .entry))) ti) to r ⌝ }
+fn after_chain(s: &[u8], lib: &Numbers, ti: TypeInfoEntry, from: Ends) -> Ends
+    ensures { λ r. ⌜ Ending (implTypesCounted (now (s .entry)) (library (now (lib .entry))) ti) from r ⌝ }
 {
     match impltypes::impl_types_at(lib, &*s, ti) {
-        ImplTypesAnswer::Value(cursor) => after_links(&*s, lib, cursor, to),
-        ImplTypesAnswer::Refused(n) => emit::put_refusal(to, n),
+        ImplTypesAnswer::Value(cursor) => after_links(&*s, lib, cursor, from),
+        ImplTypesAnswer::Refused(n) => Ends {
+            to: emit::put_refusal(from.to, n),
+            references: from.references,
+        },
     }
 }
 
-// The chain from a cursor on; 10 where it comes round. What its count is matters to nothing here, so the chain is not walked first:
-// its records are measured on the way. (There is room for no more than length - 15 records at different offsets.)
-fn after_links(s: &[u8], lib: &Numbers, cursor: ImplTypeCursor, to: usize) -> usize
-    ensures { λ r. ⌜ Measured (chainEmitted (now (s .entry)) (library (now (lib .entry))) cursor) to r ⌝ }
+// The chain from a cursor on; 10 where it comes round. It is not walked first: its records are counted on the way, a reference each.
+// (There is room for no more than length - 15 records at different offsets.)
+fn after_links(s: &[u8], lib: &Numbers, cursor: ImplTypeCursor, from: Ends) -> Ends
+    ensures { λ r. ⌜ Ending (chainCounted (now (s .entry)) (library (now (lib .entry))) cursor) from r ⌝ }
 {
     if LIMIT < s.len() {
-        return emit::put_refusal(to, 1);
+        return Ends {
+            to: emit::put_refusal(from.to, 1),
+            references: from.references,
+        };
     }
-    let mut t = crate::ahead(to, 4);
+    let mut t = crate::ahead(from.to, 4);
     let mut c = cursor;
     let mut n: usize = 0;
     loop {
         let ImplTypeStep::Record(link, _, next) = c.step(&*s) else {
-            return t;
+            return Ends {
+                to: t,
+                references: crate::ahead(from.references, n),
+            };
         };
         if s.len() - 15 <= n {
-            return emit::put_refusal(to, 10);
+            return Ends {
+                to: emit::put_refusal(from.to, 10),
+                references: from.references,
+            };
         }
         t = after_link(&*s, lib, link, t);
         c = next;

@@ -1,4 +1,6 @@
 // Functions.
+use crate::Count;
+use crate::Ends;
 use crate::names;
 use crate::parameters;
 use crate::trees;
@@ -15,39 +17,39 @@ use typelib::Numbers;
 ghost use mathlib.Core.Path.{_≡_};
 ghost use Rattle.records.specs.Told.{toldI32};
 ghost use Rattle.sheet_trees.specs.Names.{Near};
-ghost use Rattle.sheet_sizes.specs.Measured.{Measured};
-ghost use Rattle.sheet_members.specs.Emitted.{functionsEmitted, functionsFrom};
-ghost use Rattle.sheet_sizes.specs.Functions.{FunctionMeasured};
+ghost use Rattle.sheet_sizes.specs.Counted.{functionsCounted, functionsFrom};
+ghost use Rattle.sheet_sizes.specs.Counts.{Counting};
+ghost use Rattle.sheet_sizes.specs.Functions.{FunctionCounted};
 ghost use Rattle.typelib.specs.Header.{library};
 
 // The functions of a type: their count, and each.
-pub(crate) fn after_functions(s: &[u8], lib: &Numbers, ti: TypeInfoEntry, to: usize) -> usize
-    ensures { λ r. ⌜ Measured (functionsEmitted (now (s .entry)) (library (now (lib .entry))) ti) to r ⌝ }
+pub(crate) fn after_functions(s: &[u8], lib: &Numbers, ti: TypeInfoEntry, from: Count) -> Count
+    ensures { λ r. ⌜ Counting (functionsCounted (now (s .entry)) (library (now (lib .entry))) ti) from r ⌝ }
 {
+    let begun = crate::moved(from, crate::ahead(from.to, 2));
     match iterators::funcs(&*s, ti) {
         FuncsAnswer::Value(cursor) => {
-            let t = crate::ahead(to, 2);
             // (where there are none, nothing need be looked up for them)
             if cursor.remaining == 0 {
-                return t;
+                return begun;
             }
-            after_each(&*s, lib, ti, cursor, t)
+            after_each(&*s, lib, ti, cursor, begun)
         }
-        FuncsAnswer::Refused(_) => crate::ahead(to, 2),
+        FuncsAnswer::Refused(_) => begun,
     }
 }
 
 // Each function that the cursor yields. (A refusal ends it at once: it stays.)
-fn after_each(s: &[u8], lib: &Numbers, ti: TypeInfoEntry, cursor: FuncCursor, to: usize) -> usize
+fn after_each(s: &[u8], lib: &Numbers, ti: TypeInfoEntry, cursor: FuncCursor, from: Count) -> Count
     requires { ⌜ cursor .yielded ≡ 0 ⌝ }
-    ensures { λ r. ⌜ Measured (functionsFrom (now (s .entry)) (library (now (lib .entry))) ti cursor) to r ⌝ }
+    ensures { λ r. ⌜ Counting (functionsFrom (now (s .entry)) (library (now (lib .entry))) ti cursor) from r ⌝ }
 {
     let rows = words::func_rows(&*s, ti);
     let names = sheet_trees::names::names_of(&*s, lib);
-    let mut t = to;
+    let mut t = from;
     let mut c = cursor;
     loop {
-        if emit::PAST < t {
+        if emit::PAST < t.to {
             return t;
         }
         let FuncStep::Record(func, number, next) = c.step(&*s) else {
@@ -69,15 +71,30 @@ fn after_function(
     memid: I32Answer,
     name_offset: I32Answer,
     func: FuncRecord,
-    to: usize,
-) -> usize
+    from: Count,
+) -> Count
     requires { ⌜ Near (now s) (library (now lib)) names ⌝ }
-    ensures { λ r. ⌜ FunctionMeasured (now (s .entry)) (library (now (lib .entry))) (toldI32 memid) (toldI32 «name_offset») func to r ⌝ }
+    ensures { λ r. ⌜ FunctionCounted (now (s .entry)) (library (now (lib .entry))) (toldI32 memid) (toldI32 «name_offset») func from r ⌝ }
 {
-    let t = names::after_memid(memid, to);
+    let t = names::after_memid(memid, from.to);
     let t = names::after_name_by(&*s, lib, names, name_offset, t);
-    let t = trees::after_tree(&*s, lib, emit::word_at(s, func.at, 0x04), t);
+    let field = emit::word_at(s, func.at, 0x04);
+    let result = trees::after_tree(
+        &*s,
+        lib,
+        field,
+        Ends {
+            to: t,
+            references: from.references,
+        },
+    );
     // the words of the record from 0x08 on
-    let t = crate::ahead(t, 14);
-    parameters::after_parameters(&*s, lib, names, func, t)
+    let c = Count {
+        to: crate::ahead(result.to, 14),
+        functions: crate::ahead(from.functions, 1),
+        parameters: from.parameters,
+        variables: from.variables,
+        references: result.references,
+    };
+    parameters::after_parameters(&*s, lib, names, func, c)
 }

@@ -5,7 +5,7 @@ use sheet_trees::names::Names;
 use typelib::Numbers;
 ghost use Rattle.records.specs.Told.{toldI32};
 ghost use Rattle.sheet_trees.specs.Names.{Near};
-ghost use Rattle.sheet_sizes.specs.Measured.{Measured};
+ghost use Rattle.sheet_sizes.specs.Counts.{Measured};
 ghost use Rattle.sheet_trees.specs.Emitted.{guidEmitted, memidEmitted, nameByEmitted, nameEmitted};
 ghost use Rattle.typelib.specs.Header.{library};
 
@@ -41,10 +41,10 @@ pub(crate) fn after_name_by(
     requires { ⌜ Near (now s) (library (now lib)) names ⌝ }
     ensures { λ r. ⌜ Measured (nameByEmitted (now (s .entry)) (library (now (lib .entry))) (toldI32 offset)) to r ⌝ }
 {
-    match offset {
-        I32Answer::Value(x) => after_name(&*s, lib, names, util::unsigned32(x), to),
-        I32Answer::Refused(_) => crate::ahead(to, 1),
-    }
+    let I32Answer::Value(x) = offset else {
+        return crate::ahead(to, 1);
+    };
+    after_name(&*s, lib, names, util::unsigned32(x), to)
 }
 
 // A member's identifier.

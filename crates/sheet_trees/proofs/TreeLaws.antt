@@ -85,7 +85,7 @@ module _ (s : List ℕ) (lib : TypeLib) where
   wrapped k w head h (value t) = ap value (h t)
   wrapped k w head h (refused n) = refl
 
-  array-tree : (k at : ℕ) (t : Tree)
+  pub array-tree : (k at : ℕ) (t : Tree)
       → encode (nested edition-one (typeCount lib) (suc k)) (cArray (dimensionsOf s at) t) ≡ arrayBytes s at ++ encode (nested edition-one (typeCount lib) k) t
   unfolding nested level arrayBytes dimensionsOf dimensionsBytes
   array-tree k at t =

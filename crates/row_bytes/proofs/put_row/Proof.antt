@@ -80,6 +80,12 @@ put-name-step-requires c κs = search needs
 enum-known-row-10 : tie.Need-enum-known-row-10
 enum-known-row-10 c = search needs
 
+put-figures-requires : tie.Need-put-figures-requires
+put-figures-requires c κs = search needs
+
+enum-known-row-11 : tie.Need-enum-known-row-11
+enum-known-row-11 c = search needs
+
 put-refusal-requires : tie.Need-put-refusal-requires
 put-refusal-requires c κs = search needs
 
@@ -137,8 +143,14 @@ same-length-9 c = search needs
 returns-9 : tie.Need-returns-9
 returns-9 c = known (shown toldRow (c .before .before .before .before .before .row9 .given .1)) (c .before .before .put-name-step .ensures)
 
+same-length-10 : tie.Need-same-length-10
+same-length-10 c = search needs
+
 returns-10 : tie.Need-returns-10
-returns-10 c = known (shown toldRow (c .before .before .row10 .given .1)) (c .put-refusal .ensures _)
+returns-10 c = known (shown toldRow (c .before .before .before .before .before .row10 .given .1)) (c .before .before .put-figures .ensures)
+
+returns-11 : tie.Need-returns-11
+returns-11 c = known (shown toldRow (c .before .before .row11 .given .1)) (c .put-refusal .ensures _)
 
 pub put-row-spec : {M : Type 1} → statement M
 put-row-spec =
@@ -169,6 +181,8 @@ put-row-spec =
     enum-known-row-9
     put-name-step-requires
     enum-known-row-10
+    put-figures-requires
+    enum-known-row-11
     put-refusal-requires
     same-length
     returns
@@ -188,4 +202,6 @@ put-row-spec =
     returns-8
     same-length-9
     returns-9
-    returns-10)
+    same-length-10
+    returns-10
+    returns-11)

@@ -22,7 +22,7 @@ ahead-requires : tie.Need-ahead-requires
 ahead-requires c κs = search needs
 
 returns : tie.Need-returns
-returns c = names-counted _ _ _ (c .before .before .before .before .before .word-at .ensures) (c .before .before .word-at2 .ensures) (c .before .before .before .before .after-guid .ensures) (c .before .after-name .ensures) (c .ahead .ensures)
+returns c = names-counted _ _ _ _ _ (c .before .before .before .before .before .word-at .ensures) (c .before .before .word-at2 .ensures) (c .before .before .before .before .after-guid .ensures) (c .before .after-name .ensures) (c .ahead .ensures)
 
 pub after-names-spec : {M : Type 1} → statement M
 after-names-spec =

@@ -1,7 +1,7 @@
-use native.Mathlib.Omega.{arith}
+use Rattle.emit.specs.Laws.{advance-to}
+use Rattle.emit.specs.Emit.{advance}
 use mathlib.Core.Logic.{⊎-elim}
-use Rattle.emit.specs.Laws.{stopped-past}
-use Rattle.sheet_sizes.specs.Measured.{within}
+use native.Mathlib.Omega.{arith}
 use borrow.Author.Needs.{needs}
 use Rattle.sheet_sizes.proofs.ahead.Statement.{statement}
 use Rattle.sheet_sizes.proofs.ahead.Tie as tie
@@ -10,13 +10,15 @@ add-result : tie.Need-add-result
 add-result c = search needs
 
 returns : tie.Need-returns
-returns c = within _ _ (omega arith)
+returns c = advance-to _ _ (omega arith)
 
 returns-2 : tie.Need-returns-2
-returns-2 c = λ bs g. stopped-past _ (omega arith) g (⊎-elim (λ w. omega arith) (λ w. omega arith) (c .before .if1 .came))
+unfolding advance
+returns-2 c = ⊎-elim (λ w. omega arith) (λ w. omega arith) (c .before .if1 .came)
 
 returns-3 : tie.Need-returns-3
-returns-3 c = λ bs g. stopped-past _ (omega arith) g (⊎-elim (λ w. omega arith) (λ w. omega arith) (c .before .if1 .came))
+unfolding advance
+returns-3 c = ⊎-elim (λ w. omega arith) (λ w. omega arith) (c .before .if1 .came)
 
 pub ahead-spec : {M : Type 1} → statement M
 ahead-spec = tie.close (tie.spec add-result returns returns-2 returns-3)

@@ -1,7 +1,8 @@
-use Rattle.sheet_bases.proofs.BaseLaws.{chain-is, chain-refused}
-use Rattle.emit.specs.Laws.{known}
-use Rattle.impltypes.specs.Chain.{toldImplTypes}
+use mathlib.Core.List.{[]}
 use mathlib.Core.Path.{ap}
+use Rattle.sheet_sizes.proofs.CountLaws.{known-e, refusing-e}
+use Rattle.sheet_sizes.proofs.BaseLaws.{chain-is, chain-refused}
+use Rattle.impltypes.specs.Chain.{toldImplTypes}
 use borrow.Author.Needs.{needs}
 use Rattle.sheet_sizes.proofs.bases.after_chain.Statement.{statement}
 use Rattle.sheet_sizes.proofs.bases.after_chain.Tie as tie
@@ -22,10 +23,10 @@ put-refusal-requires : tie.Need-put-refusal-requires
 put-refusal-requires c κs = search needs
 
 returns : tie.Need-returns
-returns c = known (chain-is _ _ _ _ (c .before .before .before .before .impl-types-at .ensures) (ap toldImplTypes (c .before .before .cursor .given .1))) (c .after-links .ensures)
+returns c = known-e (chain-is _ _ _ _ (c .before .before .before .before .impl-types-at .ensures) (ap toldImplTypes (c .before .before .cursor .given .1))) (c .after-links .ensures)
 
 returns-2 : tie.Need-returns-2
-returns-2 c = known (chain-refused _ _ _ _ (c .before .before .before .before .impl-types-at .ensures) (ap toldImplTypes (c .before .before .n .given .1))) (c .put-refusal .ensures _)
+returns-2 c = known-e (chain-refused _ _ _ _ (c .before .before .before .before .impl-types-at .ensures) (ap toldImplTypes (c .before .before .n .given .1))) (refusing-e _ _ _ _ (c .put-refusal .ensures []))
 
 pub after-chain-spec : {M : Type 1} → statement M
 after-chain-spec =

@@ -1,7 +1,8 @@
-use Rattle.emit.specs.Laws.{known, join}
-use Rattle.sheet_members.proofs.MemberLaws.{function-is}
-use Rattle.sheet_members.specs.Words.{functionWords}
+use Rattle.sheet_sizes.proofs.CountLaws.{ahead-measured, known, then, bytes, function-part}
+use Rattle.sheet_sizes.proofs.MemberLaws.{function-counts}
 use Rattle.sheet_sizes.proofs.SizeLaws.{words-length}
+use Rattle.sheet_members.specs.Words.{functionWords}
+use Rattle.emit.specs.Laws.{join}
 use borrow.Author.Needs.{needs}
 use Rattle.sheet_sizes.proofs.functions.after_function.Statement.{statement}
 use Rattle.sheet_sizes.proofs.functions.after_function.Tie as tie
@@ -10,7 +11,7 @@ after-memid-requires : tie.Need-after-memid-requires
 after-memid-requires c κs = search needs
 
 after-name-by-requires : tie.Need-after-name-by-requires
-after-name-by-requires c κs = c .before .before .pre
+after-name-by-requires c κs = search needs
 
 word-at-requires : tie.Need-word-at-requires
 word-at-requires c κs = search needs
@@ -21,11 +22,14 @@ after-tree-requires c κs = search needs
 ahead-requires : tie.Need-ahead-requires
 ahead-requires c κs = search needs
 
+ahead-requires-2 : tie.Need-ahead-requires-2
+ahead-requires-2 c κs = search needs
+
 after-parameters-requires : tie.Need-after-parameters-requires
-after-parameters-requires c κs = c .before .before .before .before .before .before .pre
+after-parameters-requires c κs = search needs
 
 returns : tie.Need-returns
-returns c = λ ti i e f. known (function-is _ _ ti i _ _ _ e f (c .before .before .before .word-at .ensures)) (join (c .before .before .before .before .before .after-memid .ensures) (join (c .before .before .before .before .after-name-by .ensures) (join (c .before .before .after-tree .ensures) (join (c .before .ahead .ensures (functionWords _ _) (words-length _ _)) (c .after-parameters .ensures)))))
+returns c = λ ti i e f. known (function-counts _ _ ti i _ _ _ e f (c .before .before .before .before .word-at .ensures)) (then (bytes (c .before .before .before .before .before .before .before .before .args .from) _ (join (c .before .before .before .before .before .before .after-memid .ensures) (c .before .before .before .before .before .after-name-by .ensures))) (then (c .before .before .before .after-tree .ensures .is (c .before .before .before .before .before .before .before .before .args .from)) (then (function-part _ _ _ (ahead-measured _ (c .before .before .ahead .ensures) (functionWords _ _) (words-length _ _)) (c .before .ahead2 .ensures)) (c .after-parameters .ensures))))
 
 pub after-function-spec : {M : Type 1} → statement M
 after-function-spec =
@@ -36,5 +40,6 @@ after-function-spec =
     word-at-requires
     after-tree-requires
     ahead-requires
+    ahead-requires-2
     after-parameters-requires
     returns)

@@ -1,5 +1,5 @@
-use Rattle.sheet_sizes.proofs.SizeLaws.{name-there, name-missing, name-room}
 use native.Mathlib.Omega.{arith}
+use Rattle.sheet_sizes.proofs.SizeLaws.{name-there, name-missing, name-room}
 use borrow.Author.Needs.{needs}
 use Rattle.sheet_sizes.proofs.names.after_name.Statement.{statement}
 use Rattle.sheet_sizes.proofs.names.after_name.Tie as tie

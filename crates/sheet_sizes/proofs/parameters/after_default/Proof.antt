@@ -1,4 +1,4 @@
-use Rattle.sheet_sizes.specs.Measured.{measured}
+use Rattle.sheet_sizes.specs.Counts.{measured}
 use borrow.Author.Needs.{needs}
 use Rattle.sheet_sizes.proofs.parameters.after_default.Statement.{statement}
 use Rattle.sheet_sizes.proofs.parameters.after_default.Tie as tie
