@@ -1,5 +1,5 @@
-/* tlb check: whether a library is read, with what it names outside its tables, its references that hit no typeinfo
-   and what is not UTF-8, and if not, what is refused and where. */
+/* tlb check: whether a library is read, with its figures, what it names outside its tables, its references that hit
+   no typeinfo and what is not UTF-8, and if not, what is refused and where. */
 #include "commands.h"
 #include "findings.h"
 #include "spell.h"
@@ -7,31 +7,41 @@
 #include <inttypes.h>
 #include <stdio.h>
 
-/* ---- counts ---- */
+/* ---- figures ---- */
 
-typedef bool next_member(const library *l, msft_cursor *c, record *r);
-
-static uint64_t count(const library *l, msft_cursor at, next_member *next)
+/* How many there are of a thing, such as `1 type`, `1,024 types` or `more than 16,777,216 types`. */
+static void put_count(cell *c, uint32_t n, const char *thing)
 {
-    record r;
-    while (next(l, &at, &r))
-        continue;
-    return at.yielded;
+    if (MSFT_MOST_FIGURE < n) {
+        put(c, "more than ");
+        n = MSFT_MOST_FIGURE;
+    }
+    if (1000000 <= n)
+        put(c, "%" PRIu32 ",%03" PRIu32 ",%03" PRIu32, n / 1000000, n / 1000 % 1000, n % 1000);
+    else if (1000 <= n)
+        put(c, "%" PRIu32 ",%03" PRIu32, n / 1000, n % 1000);
+    else
+        put(c, "%" PRIu32, n);
+    put(c, n == 1 ? " %s" : " %ss", thing);
 }
 
-static void say_read(const library *l, const sheet *s)
+/* The five figures, and the count of types, in a line. */
+static void print_figures(const library *l, const msft_figures *f)
 {
-    size_t types = (size_t)msft_typeinfo_count(BYTES(l));
-    uint64_t functions = 0, variables = 0;
-    msft_place type;
-    for (size_t i = 0; i < types; i++) {
-        if (!type_at(l, i, &type))
-            continue;
-        functions += count(l, functions_of(l, type), next_function);
-        variables += count(l, variables_of(l, type), next_variable);
-    }
-    printf("%s: read: %zu types, %" PRIu64 " functions, %" PRIu64 " variables; sheet of %zu bytes\n",
-           l->path, types, functions, variables, s->len);
+    cell c;
+    clear(&c);
+    put_count(&c, (uint32_t)msft_typeinfo_count(BYTES(l)), "type");
+    put(&c, ", ");
+    put_count(&c, f->functions, "function");
+    put(&c, ", ");
+    put_count(&c, f->parameters, "parameter");
+    put(&c, ", ");
+    put_count(&c, f->variables, "variable");
+    put(&c, ", ");
+    put_count(&c, f->references, "reference");
+    put(&c, "; sheet of ");
+    put_count(&c, f->length, "byte");
+    puts(c.text);
 }
 
 /* ---- the place of a refusal, in the order in which the sheet comes upon them ---- */
@@ -145,20 +155,23 @@ static void say_where(const library *l, int64_t reply)
 int check_command(const char *path)
 {
     library l;
-    sheet s;
+    msft_figures f;
     if (!load(&l, path))
         return TROUBLE;
-    int64_t reply = make_sheet(&l, &s);
-    int status = reply == INT64_MIN ? TROUBLE : reply < 0 ? REFUSED : DONE;
-    if (status == DONE) {
-        say_read(&l, &s);
+    int64_t reply = take_figures(&l, &f);
+    if (0 <= reply) {
+        printf("%s: read: ", l.path);
+        print_figures(&l, &f);
         print_findings(&l);
-    }
-    if (status == REFUSED) {
+    } else {
         say_refused(&l, reply);
         say_where(&l, reply);
     }
-    free_sheet(&s);
+    /* A library whose sheet is too long is refused, but has figures. */
+    if (reply == -MSFT_NO_SPACE) {
+        printf("%s: counted: ", l.path);
+        print_figures(&l, &f);
+    }
     unload(&l);
-    return status;
+    return reply < 0 ? REFUSED : DONE;
 }

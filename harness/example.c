@@ -1,7 +1,10 @@
-/* The harness's own use of the library: which member draws, what it takes and what it returns.
-       example slot_random.tlb Draw */
+/* The harness's own use of the library: which member draws, what it takes and what it returns; and the library's
+   sheet, to be kept with the report.
+       example slot_random.tlb Draw
+       example slot_random.tlb Draw slot_random.sheet */
 #include <msft_typelib.h>
 #include <stdio.h>
+#include <stdlib.h>
 
 #define LIB lib, lib_len
 static uint8_t lib[16777217], out[MSFT_YIELD_BYTES];
@@ -63,19 +66,59 @@ static int find(msft_place type, const char *wanted)
     return found;
 }
 
+static int refuse(int64_t reply)
+{
+    fprintf(stderr, "refused %d: %s\n", (int)-reply, msft_refusal_word(reply));
+    return 2;
+}
+
+static int store(const char *path, const uint8_t *bytes, size_t len)
+{
+    FILE *file = fopen(path, "wb");
+    if (file == NULL)
+        return perror(path), 2;
+    int is_short = fwrite(bytes, 1, len, file) != len;
+    if (is_short)
+        perror(path);
+    if (fclose(file) != 0 && !is_short)
+        return perror(path), 2;
+    return is_short ? 2 : 0;
+}
+
+/* The library's sheet, into a file. How many bytes to reserve is in its figures: they are refused as the sheet would be,
+   but for one that is longer than any sheet may be, and else the sheet has just as many. */
+static int store_sheet(const char *path)
+{
+    int64_t reply = msft_sheet_figures(LIB, out, sizeof out);
+    if (reply < 0)
+        return refuse(reply);
+    size_t len = msft_unpack_figures(out).length;
+    if (MSFT_MOST_FIGURE < len)
+        return refuse(-MSFT_NO_SPACE);
+    uint8_t *sheet = malloc(len);
+    if (sheet == NULL)
+        return perror("example"), 2;
+    reply = msft_sheet(LIB, sheet, len);
+    int status = reply < 0 ? refuse(reply) : store(path, sheet, len);
+    free(sheet);
+    return status;
+}
+
 int main(int argc, char **argv)
 {
     int found = 0;
-    FILE *file = argc == 3 ? fopen(argv[1], "rb") : NULL;
+    FILE *file = argc == 3 || argc == 4 ? fopen(argv[1], "rb") : NULL;
     if (file == NULL)
-        return fputs("usage: example LIBRARY MEMBER\n", stderr), 2;
+        return fputs("usage: example LIBRARY MEMBER [SHEET]\n", stderr), 2;
     lib_len = fread(lib, 1, sizeof lib, file);
     fclose(file);
     int64_t count = msft_typeinfo_count(LIB);
     if (count < 0)
-        return fprintf(stderr, "refused %d: %s\n", (int)-count, msft_refusal_word(count)), 2;
+        return refuse(count);
     for (size_t i = 0; i < (size_t)count; i++)
         if (0 < msft_typeinfo(LIB, i, out, sizeof out))
             found += find(msft_unpack_place(out), argv[2]);
+    if (argc == 4 && store_sheet(argv[3]) != 0)
+        return 2;
     return found == 0;
 }

@@ -70,27 +70,14 @@ void unload(library *l)
 
 /* ---- sheets and refusals ---- */
 
-int64_t make_sheet(const library *l, sheet *s)
+int64_t take_figures(const library *l, msft_figures *f)
 {
-    s->len = 0;
-    s->bytes = malloc(MOST_BYTES);
-    if (s->bytes == NULL) {
-        fputs("tlb: no memory for a sheet\n", stderr);
-        return INT64_MIN;
-    }
-    int64_t reply = msft_sheet(BYTES(l), s->bytes, MOST_BYTES);
+    uint8_t out[MSFT_FIGURES_BYTES];
+    int64_t reply = msft_sheet_figures(BYTES(l), out, sizeof out);
     if (reply < 0)
-        free_sheet(s);
-    else
-        s->len = (size_t)reply;
-    return reply;
-}
-
-void free_sheet(sheet *s)
-{
-    free(s->bytes);
-    s->bytes = NULL;
-    s->len = 0;
+        return reply;
+    *f = msft_unpack_figures(out);
+    return MSFT_MOST_FIGURE < f->length ? -MSFT_NO_SPACE : (int64_t)f->length;
 }
 
 static const char *reason(int64_t reply)
@@ -119,16 +106,43 @@ void say_refused(const library *l, int64_t reply)
             msft_refusal_word(reply), reason(reply));
 }
 
+int need_figures(const library *l, msft_figures *f)
+{
+    int64_t reply = take_figures(l, f);
+    if (0 <= reply)
+        return DONE;
+    say_refused(l, reply);
+    return REFUSED;
+}
+
 int need_sheet(const library *l, sheet *s)
 {
-    int64_t reply = make_sheet(l, s);
-    if (reply == INT64_MIN)
+    msft_figures f;
+    s->bytes = NULL;
+    s->len = 0;
+    int status = need_figures(l, &f);
+    if (status != DONE)
+        return status;
+    s->bytes = malloc(f.length);
+    if (s->bytes == NULL) {
+        fputs("tlb: no memory for a sheet\n", stderr);
         return TROUBLE;
+    }
+    int64_t reply = msft_sheet(BYTES(l), s->bytes, f.length);
     if (reply < 0) {
         say_refused(l, reply);
+        free_sheet(s);
         return REFUSED;
     }
+    s->len = (size_t)reply;
     return DONE;
+}
+
+void free_sheet(sheet *s)
+{
+    free(s->bytes);
+    s->bytes = NULL;
+    s->len = 0;
 }
 
 /* ---- texts ---- */

@@ -8,6 +8,7 @@
 
 #include <msft_typelib.h>
 
+/* The most bytes that a library may have. */
 enum { MOST_BYTES = 16777216 };
 
 /* How a command ends. */
@@ -38,16 +39,20 @@ typedef struct sheet {
 bool load(library *l, const char *path);
 void unload(library *l);
 
-/* Makes the library's sheet; replies its length, or minus a refusal's number. INT64_MIN where there
-   is no memory, which it says itself. */
-int64_t make_sheet(const library *l, sheet *s);
-void free_sheet(sheet *s);
+/* The figures of the library's sheet. Replies as a sheet call that has all the space it needs, but makes no sheet:
+   the sheet's length, or minus a refusal's number; the figures are there also where that is 12, of a sheet that is
+   longer than allowed. */
+int64_t take_figures(const library *l, msft_figures *f);
 
 /* Says that the library is refused, by number and word, and why; `reply` is minus the number. */
 void say_refused(const library *l, int64_t reply);
 
-/* Makes the sheet, or says why there is none; replies how the command then ends. */
+/* Takes the figures, or says why there is no sheet; replies how the command then ends. */
+int need_figures(const library *l, msft_figures *f);
+
+/* Makes the sheet, in just as many bytes as it has, or says why there is none; replies how the command then ends. */
 int need_sheet(const library *l, sheet *s);
+void free_sheet(sheet *s);
 
 /* The text of a place; none where the reply that goes with it is a refusal. */
 text text_at(const library *l, int64_t reply, const uint8_t *out);

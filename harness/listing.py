@@ -1,12 +1,14 @@
 #!/usr/bin/env python3
-"""Prints from a raw sheet what `tlb members` must list of its library, and writes to two files which of its names
-`tlb check` must tell as not UTF-8, and which references as hitting no typeinfo: listing.py SHEET NAMES REFERENCES.
+"""Prints from a raw sheet what `tlb members` must list of its library, and writes to three files which of its names
+`tlb check` must tell as not UTF-8, which references as hitting no typeinfo, and the figures that it must say:
+listing.py SHEET NAMES REFERENCES FIGURES.
 
 The tool reads the library's records; this reads the sheet, which is proved to be the library's
 description, by document 01's layout. The tests hold the two against each other. The sheet has no
 numbers: a function's or a variable's is its place in the sheet's list, from 0. The library's help
 string is in no sheet, and `extends` is left out where the reference is nothing. Where a name stops being UTF-8
-is what Python's decoder says; a line has numbers and no names, and no offsets into tables."""
+is what Python's decoder says; a line has numbers and no names, and no offsets into tables. Figures are counted as
+the sheet is taken apart: each type, function, parameter and variable, each reference whatever its code, and its bytes."""
 import math
 import struct
 import sys
@@ -29,9 +31,11 @@ class Reader:
     def __init__(self, data):
         self.data, self.at = data, 0
         self.where, self.faults, self.misplaced = ['the library'], [], []
+        self.counts = dict.fromkeys(['type', 'function', 'parameter', 'variable', 'interface', 'reference'], 0)
 
     def within(self, part, number, read):
         """What `read` reads is a part, by that number, of what is read now."""
+        self.counts[part] += 1
         self.where.append('%s %d' % (part, number))
         found = read(self, number)
         self.where.pop()
@@ -69,6 +73,7 @@ class Reader:
         return '{%08X-%04X-%04X-%s-%s}' % (a, b, c, h[:4], h[4:])
 
     def reference(self, of):
+        self.counts['reference'] += 1
         code = self.number(1)
         if code == 0:
             return None
@@ -267,6 +272,15 @@ def type_body(r, index):
     return name, lines
 
 
+def counted(number, thing):
+    return '{:,} {}{}'.format(number, thing, '' if number == 1 else 's')
+
+
+def figures(r):
+    things = ['type', 'function', 'parameter', 'variable', 'reference']
+    return '%s; sheet of %s' % (', '.join(counted(r.counts[thing], thing) for thing in things), counted(len(r.data), 'byte'))
+
+
 def versions(version):
     return 'version %d.%d' % (version & 0xffff, version >> 16)
 
@@ -291,7 +305,7 @@ def main():
     print('    %s, lcid 0x%04x, %d types' % (versions(version), lcid, count))
     for _, lines in types:
         print('\n'.join(lines(names)))
-    for path, told in zip(sys.argv[2:], (r.faults, r.misplaced)):
+    for path, told in zip(sys.argv[2:], (r.faults, r.misplaced, [figures(r)])):
         with open(path, 'w') as file:
             file.writelines(line + '\n' for line in told)
 

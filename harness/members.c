@@ -299,18 +299,17 @@ static void print_types(const library *l)
 }
 
 /* Only what has a sheet is listed: it is read to its end without a refusal, and is not longer than the
-   sheet allows. */
+   sheet allows. The figures tell that without a sheet. */
 int members_command(const char *path)
 {
     library l;
-    sheet s;
+    msft_figures f;
     if (!load(&l, path))
         return TROUBLE;
-    int status = need_sheet(&l, &s);
+    int status = need_figures(&l, &f);
     if (status == DONE) {
         print_library(&l);
         print_types(&l);
-        free_sheet(&s);
     }
     unload(&l);
     return status;

@@ -128,8 +128,8 @@ static void walk(void)
 
 /* ---- lengths ---- */
 
-/* What sets a cursor up, and the check of a text, over the smallest library: how many write as much as the header
-   names for them. */
+/* What sets a cursor up, the check of a text, and the figures of a sheet, over the smallest library: how many write as
+   much as the header names for them. */
 static void lengths(void)
 {
     enum { LIBRARY_SIZE = 324, TYPE_SIZE = 100 };
@@ -141,7 +141,8 @@ static void lengths(void)
     right += msft_impl_types(bytes, sizeof bytes, 0, TYPE_SIZE, out, sizeof out) == MSFT_CHAIN_CURSOR_BYTES;
     right += msft_typeinfos(bytes, sizeof bytes, out, sizeof out) == MSFT_SIZE_BYTES;
     right += msft_text_check(bytes, sizeof bytes, 0, 4, out, sizeof out) == MSFT_TEXT_CHECK_BYTES;
-    printf("calls that write the length that is named: %d of 6\n", right);
+    right += msft_sheet_figures(bytes, sizeof bytes, out, sizeof out) == MSFT_FIGURES_BYTES;
+    printf("calls that write the length that is named: %d of 7\n", right);
 }
 
 int main(void)

@@ -11,9 +11,9 @@ static const char usage[] =
     "       tlb sheet [-o OUT] FILE  the sheet, in hex; raw to OUT\n"
     "       tlb same FILE FILE       whether two libraries have the same description, and in\n"
     "                                which field they part\n"
-    "       tlb check FILE           whether it is read, what leads out of its tables, which\n"
-    "                                references hit no typeinfo and which texts are not UTF-8;\n"
-    "                                or what is refused and why\n"
+    "       tlb check FILE           whether it is read, how much, and how long its sheet is; what\n"
+    "                                leads out of its tables, which references hit no typeinfo\n"
+    "                                and which texts are not UTF-8; or what is refused and why\n"
     "       tlb --help               this text\n"
     "\n"
     "Exit status: 0 done (same: the same); 1 refused (same: different); 2 trouble.\n";

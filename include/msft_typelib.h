@@ -12,7 +12,7 @@
    (msft_i32 and msft_i16 give the signed number), a truth as 0 or 1. Any other writes its values to
    the front of `out`, little-endian, at their own widths, and replies how many bytes it wrote; a
    place, a length, an index and a cursor's numbers have eight bytes each, but for a chain cursor's
-   `next`, which has four. The functions msft_unpack_.. read them back.
+   `next` and a sheet's figures, which have four. The functions msft_unpack_.. read them back.
 
    Calls that need the library's header, its table of offsets or a segment begin with `parse`, and
    reply -1 to -5 where the bytes are no library. The others read only the lent bytes, if they take any;
@@ -87,13 +87,29 @@ static inline const char *msft_refusal_word(int64_t reply)
     }
 }
 
-/* ---- the sheet (its call needs some 150 KB of stack) ---- */
+/* ---- the sheet (msft_sheet needs some 150 KB of stack), and its figures ---- */
 
 /* The library's sheet. Writes it whole; -1 to -8, -10 to -13. Two sheets are equal exactly if the two
    libraries have the same description. A sheet that was stored when a reference that hits no typeinfo
    (see msft_misplaced_offset) was still laid out as nothing or as a typeinfo's index has to be made
    again from its library: no call can tell it from another or set it right. */
 int64_t msft_sheet(const uint8_t *lib, size_t lib_len, uint8_t *out, size_t out_len);
+
+/* The figures of the library's sheet, before it is made: its length in bytes; how many functions,
+   parameters and variables it reads, those that are yielded and not those that are declared; and how many
+   references, each field that holds one, also where it leads to nothing: the base of kinds 3 and 4, each
+   record of a coclass's chain, and each reference in the type of a result, a parameter, a variable or an
+   alias (a type that cannot be read holds none). A figure above 16,777,216 is given as 16,777,217, each by
+   itself.
+
+   So an output is reserved: where the length is at most 16,777,216, an output of that length is enough, and
+   msft_sheet fills it exactly; whenever msft_sheet writes a sheet, its reply is the length given here. A
+   length of 16,777,217 is no refusal here; msft_sheet is then -12 whatever its output. This call is refused
+   exactly where msft_sheet is by another number than -12, by that number; its own -12 says only that
+   out_len is below 20. Its time goes by the members that are read, and not by lib_len: a hostile library,
+   whose types share their records, can take minutes. Writes five u32, the length, functions, parameters,
+   variables and references (20 bytes); -1 to -8, -10 to -13. */
+int64_t msft_sheet_figures(const uint8_t *lib, size_t lib_len, uint8_t *out, size_t out_len);
 
 /* ---- guid: a GUID, by its place ---- */
 /* The place of the 16 bytes. Writes a place (16 bytes); -1, -9, -12. */
@@ -856,7 +872,7 @@ static inline msft_place msft_unpack_place(const uint8_t *out)
    cursor in one piece. */
 
 /* How many bytes a call writes for each; MSFT_SIZE_BYTES, for an index or the count of a walk;
-   MSFT_TEXT_CHECK_BYTES, for the check of a text. */
+   MSFT_TEXT_CHECK_BYTES, for the check of a text; MSFT_FIGURES_BYTES, for the figures of a sheet. */
 enum msft_bytes {
     MSFT_SIZE_BYTES = 8,
     MSFT_CURSOR_BYTES = 32,
@@ -868,7 +884,8 @@ enum msft_bytes {
     MSFT_TYPEINFO_YIELD_BYTES = 32,
     MSFT_CHAIN_CURSOR_BYTES = 28,
     MSFT_CHAIN_YIELD_BYTES = 52,
-    MSFT_TEXT_CHECK_BYTES = 9
+    MSFT_TEXT_CHECK_BYTES = 9,
+    MSFT_FIGURES_BYTES = 20
 };
 
 /* Functions, variables and parameters. */
@@ -1059,6 +1076,29 @@ static inline msft_text_checked msft_unpack_text_checked(const uint8_t *out)
     c.is_valid = out[0];
     c.looked_at = msft_unpack_size(out + 1);
     return c;
+}
+
+/* The figures of a sheet. One above MSFT_MOST_FIGURE means only "more than that". Where it is the length,
+   msft_sheet replies -12; otherwise the sheet has exactly `length` bytes. */
+enum msft_limit { MSFT_MOST_FIGURE = 16777216 };
+
+typedef struct msft_figures {
+    uint32_t length;
+    uint32_t functions;
+    uint32_t parameters;
+    uint32_t variables;
+    uint32_t references;
+} msft_figures;
+
+static inline msft_figures msft_unpack_figures(const uint8_t *out)
+{
+    msft_figures f;
+    f.length = (uint32_t)msft_le(out, 4);
+    f.functions = (uint32_t)msft_le(out + 4, 4);
+    f.parameters = (uint32_t)msft_le(out + 8, 4);
+    f.variables = (uint32_t)msft_le(out + 12, 4);
+    f.references = (uint32_t)msft_le(out + 16, 4);
+    return f;
 }
 
 /* The bounds of one dimension of an array. */
