@@ -1,5 +1,7 @@
 //! What a run's inputs covered: a comparison says nothing about a case that never came up.
 
+pub mod figures;
+
 use std::collections::BTreeMap;
 use std::fmt::{self, Debug, Display};
 

@@ -26,7 +26,7 @@ pub struct Export {
 }
 
 /// What an answer is made from: a library that can be parsed; the lent bytes alone, which need be no
-/// library; the bytes that a sheet is made from; or numbers alone.
+/// library; the bytes that a sheet or its figures are made from; or numbers alone.
 enum Rust {
     Library(fn(&TypeLib, Numbers) -> Answer),
     Lent(fn(&TypeLib, Numbers) -> Answer),

@@ -1,7 +1,7 @@
 //! The reference reader, built from its own files, and what this project asks of it.
 //!
 //! The reference's crate root and its `Error` type are not among the given files. This file stands
-//! in for both. `readings`, `library`, `enumerate`, `sheet`, `text_check`, `misplaced` and what feeds them are ours; they are
+//! in for both. `readings`, `library`, `enumerate`, `sheet`, `figures`, `text_check`, `misplaced` and what feeds them are ours; they are
 //! modules of the same crate because the constructors of the reference's records are `pub(crate)`.
 //!
 //! It is compiled twice: as `msft_typelib` over the reference's files as they are, and as `bounded` over a copy
@@ -18,6 +18,7 @@ pub mod coverage;
 pub mod enumerate;
 #[cfg(product)]
 pub mod exports;
+pub mod figures;
 pub mod inputs;
 pub mod library;
 pub mod misplaced;

@@ -1,4 +1,4 @@
-//! The product's calls that are timed, and its sheet call. They are linked only if the build names
+//! The product's calls that are timed, and those of its sheet and the sheet's figures. They are linked only if the build names
 //! its static library.
 
 use std::array;
@@ -41,6 +41,7 @@ macro_rules! calls {
 
 calls! {
     sheet msft_sheet(),
+    figures msft_sheet_figures(),
     typeinfo msft_typeinfo(index: usize),
     impl_types msft_impl_types(at: usize, len: usize),
     walk msft_walk(at: usize, len: usize, next: u32, yielded: u64),
@@ -66,6 +67,11 @@ unsafe extern "C" {
 /// The product's reply to a sheet call on these bytes.
 pub fn sheet(lib: &[u8], out: &mut [u8]) -> i64 {
     raw::sheet(lib, out)
+}
+
+/// The product's reply to a call for the figures of these bytes' sheet.
+pub fn figures(lib: &[u8], out: &mut [u8]) -> i64 {
+    raw::figures(lib, out)
 }
 
 pub fn parse(lib: &[u8]) -> i64 {

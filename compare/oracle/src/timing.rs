@@ -1,5 +1,7 @@
-//! Times the product beside the reference: same inputs, one run, turn by turn.
+//! Times the product beside the reference: same inputs, one run, turn by turn. One table has the product's figures beside
+//! its own sheets.
 
+pub mod figures;
 pub mod readings;
 pub mod sheets;
 
@@ -14,7 +16,7 @@ const ALL_ROUNDS: Duration = Duration::from_millis(1500);
 /// A round of work; its number must be the same from the product as from the reference.
 pub type Work<'a> = Box<dyn FnMut() -> u64 + 'a>;
 
-/// What is timed.
+/// What is timed. In the table of the product's own calls its sheets stand in the reference's place.
 pub struct Case<'a> {
     pub name: &'static str,
     /// The bytes of its libraries.
@@ -53,9 +55,14 @@ impl Times {
 /// Prints the titles of the columns.
 pub fn print_titles() {
     println!("times in milliseconds, least and median of the rounds");
+    print_columns("Rust", "product");
+}
+
+/// The titles, with those of the two that are timed; the ratio is that of the second to the first.
+fn print_columns(first: &str, second: &str) {
     println!(
-        "{:44} {:>9} {:>8} {:>6} {:>21} {:>21} {:>6}",
-        "", "bytes", "calls", "rounds", "Rust", "product", "ratio"
+        "{:44} {:>9} {:>8} {:>6} {first:>21} {second:>21} {:>6}",
+        "", "bytes", "calls", "rounds", "ratio"
     );
 }
 

@@ -1,8 +1,9 @@
-//! The readings of a library's header, and the sheet.
+//! The readings of a library's header, and the sheet and its figures.
 
 use super::answer::{Answer, Tell};
 use super::numbers::Asks;
 use super::{Export, Rust, export, linked};
+use crate::figures::{Figures, figures};
 use crate::sheet::{MOST_BYTES, sheet};
 
 /// Exports that ask a library for a method without numbers.
@@ -30,10 +31,16 @@ pub(super) fn exports() -> Vec<Export> {
             Answer::Number(u32::try_from(lib.typeinfo_count()).expect("it was read from 32 bits"))
         }),
     );
-    // The sheet is no reading of the reference, and is made from its readings.
+    // The sheet and its figures are no readings of the reference, and are made from its readings.
     exports.push(export!(LibOut msft_sheet, Asks::Nothing, Bytes, |bytes| {
         sheet(bytes, MOST_BYTES).map_or_else(Answer::Refused, Answer::Row)
     }));
+    exports.push(
+        export!(LibOut msft_sheet_figures, Asks::Nothing, Bytes, |bytes| {
+            let figures = figures(bytes).map(Figures::bytes);
+            figures.map_or_else(Answer::Refused, Answer::Row)
+        }),
+    );
     exports
 }
 

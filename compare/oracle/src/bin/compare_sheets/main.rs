@@ -1,11 +1,11 @@
-//! Compares the product's sheets with those made from the reference, on real, cut, damaged and
+//! Compares the product's sheets, and their figures, with those made from the reference, on real, cut, damaged and
 //! made-up libraries. All are held to the reference kept to its tables; where that had nothing to cut, it must
 //! answer as the reference itself does.
 //!
-//! - `compare_sheets [--seed S] [--count N]` tries the sheet call of the linked static library. If
+//! - `compare_sheets [--seed S] [--count N]` tries the calls of the linked static library. If
 //!   none was named at build time, it only counts what the inputs cover.
 //! - `compare_sheets --program PATH [--seed S] [--count N]` tries a sheet program.
-//! - `compare_sheets --file PATH` tries the call on one file.
+//! - `compare_sheets --file PATH` tries the calls on one file.
 //! - `compare_sheets --write NUMBER PATH [--seed S]` writes the input with this number.
 //!
 //! The count is that of the numbered inputs; the fixed ones are tried before. It ends with a
@@ -23,7 +23,7 @@ use std::path::Path;
 use std::process::ExitCode;
 
 use bounded::comparing::stopped;
-use bounded::inputs::{Input, Inputs, edges, misplaced, table_ends};
+use bounded::inputs::{Input, Inputs, edges, figures, misplaced, table_ends};
 use bounded::sheet::{MOST_BYTES, sheet};
 
 use options::{Options, What};
@@ -56,13 +56,22 @@ fn compare_calls(inputs: &Inputs, count: u64) -> ExitCode {
     let fixed = fixed.chain(inputs.beginnings());
     let fixed = fixed.chain(edges::small()).chain(edges::large());
     let fixed = fixed.chain(table_ends::libraries());
-    for input in fixed.chain(numbered(inputs, count)) {
-        run.call(&input);
+    let limits = figures::limits().map(|made| made.input);
+    try_all(&mut run, fixed, Run::call);
+    try_all(&mut run, limits, Run::figures);
+    try_all(&mut run, numbered(inputs, count), Run::call);
+    let is_whole = !run.is_hopeless();
+    run.end(is_whole)
+}
+
+/// Compares on each of the inputs, as long as there is hope.
+fn try_all(run: &mut Run, inputs: impl Iterator<Item = Input>, compare: fn(&mut Run, &Input)) {
+    for input in inputs {
         if run.is_hopeless() {
-            return run.end(false);
+            return;
         }
+        compare(run, &input);
     }
-    run.end(true)
 }
 
 fn compare_program(path: &Path, inputs: &Inputs, count: u64) -> ExitCode {
