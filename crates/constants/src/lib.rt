@@ -1,4 +1,7 @@
 // Constants: inline in a record's word, or stored in segment 11.
+
+#![tactic(auto)]
+
 ghost use Rattle.std.specs.Prelude.{◌≡◌, ◌+◌, ◌≤◌, ◌<◌, length};
 ghost use Rattle.std.specs.Int.{w32};
 ghost use Rattle.std.proofs.Common.{of_z};
@@ -37,7 +40,7 @@ const INLINE: [u8; 32] = *b"\
 \x10\x11\x12\x13\x03\x03\x16\x17\
 \x18\x19\x03\x03\x03\x03\x03\x03";
 
-#[derive(Drop)]
+#[derive(Clone, Copy)]
 pub enum ConstAnswer {
     Value(ConstValue),
     Refused(u8),

@@ -24,7 +24,7 @@ use util::NEGATIVE;
 // The largest number that a record is given.
 const LARGEST: u64 = 0xFFFF_FFFF_FFFF_FFFF;
 
-#[derive(Drop)]
+#[derive(Clone, Copy)]
 pub struct FuncCursor {
     pub pos: usize,
     pub end: usize,
@@ -32,19 +32,19 @@ pub struct FuncCursor {
     pub yielded: u64,
 }
 
-#[derive(Drop)]
+#[derive(Clone, Copy)]
 pub enum FuncStep {
     Record(FuncRecord, u64, FuncCursor),
     Refused(u8, FuncCursor),
 }
 
-#[derive(Drop)]
+#[derive(Clone, Copy)]
 pub enum FuncsAnswer {
     Value(FuncCursor),
     Refused(u8),
 }
 
-#[derive(Drop)]
+#[derive(Clone, Copy)]
 pub struct VarCursor {
     pub pos: usize,
     pub end: usize,
@@ -52,19 +52,19 @@ pub struct VarCursor {
     pub yielded: u64,
 }
 
-#[derive(Drop)]
+#[derive(Clone, Copy)]
 pub enum VarStep {
     Record(VarRecord, u64, VarCursor),
     Refused(u8, VarCursor),
 }
 
-#[derive(Drop)]
+#[derive(Clone, Copy)]
 pub enum VarsAnswer {
     Value(VarCursor),
     Refused(u8),
 }
 
-#[derive(Drop)]
+#[derive(Clone, Copy)]
 pub struct ParamCursor {
     pub pos: usize,
     pub end: usize,
@@ -72,27 +72,27 @@ pub struct ParamCursor {
     pub yielded: u64,
 }
 
-#[derive(Drop)]
+#[derive(Clone, Copy)]
 pub enum ParamStep {
     Record(ParameterInfo, u64, ParamCursor),
     Refused(u8, ParamCursor),
 }
 
-#[derive(Drop)]
+#[derive(Clone, Copy)]
 pub enum ParamsAnswer {
     Value(ParamCursor),
     Refused(u8),
 }
 
 // A place behind the function records; or none, where a size word is past the file.
-#[derive(Drop)]
+#[derive(Clone, Copy)]
 pub enum Skipped {
     At(usize),
     Nothing,
 }
 
 // The offset and the size of a block that has one and declares something.
-#[derive(Drop)]
+#[derive(Clone, Copy)]
 pub enum Block {
     Some(u32, u32),
     Nothing,

@@ -4,6 +4,9 @@
 // Bytes that have no room in the output are only counted: over an output of no bytes an emitter measures. Nothing that stands before
 // its place changes, whatever happens. Behind the place that it replies it may store too: the next emitter goes over that.
 // A place and a refusal are one number, since an enum is slow to hand on.
+
+#![tactic(auto)]
+
 ghost use Rattle.std.specs.Prelude.{◌≡◌, ◌∷◌, [], ◌+◌, ◌≤◌, max, leb, length, drop};
 ghost use Rattle.std.proofs.lemmas.List.Edits.{sets};
 ghost use Rattle.util.specs.Read.{read, or_zero};

@@ -1,5 +1,8 @@
 // Implemented types: the chain of reference records of a coclass, its cursor and the full walk
 // (`impl_types` of typelib.rs and `ImplTypeIter` of iterators.rs; the walk is added by document 01).
+
+#![tactic(auto)]
+
 ghost use Rattle.std.specs.Prelude.{◌≡◌, ◌+◌, ◌≤◌, length};
 ghost use Rattle.records.specs.Told.{told_place};
 ghost use Rattle.typelib.specs.Header.{library};
@@ -17,28 +20,28 @@ use typelib::{Numbers, TypeLib, tables};
 const REFERENCE_TABLE: usize = 3;
 
 // The reference table, the offset of the next record in it, the 32-bit pattern of a signed number, and how many records were yielded.
-#[derive(Drop)]
+#[derive(Clone, Copy)]
 pub struct ImplTypeCursor {
     pub table: Place,
     pub next: u32,
     pub yielded: u64,
 }
 
-#[derive(Drop)]
+#[derive(Clone, Copy)]
 pub enum ImplTypesAnswer {
     Value(ImplTypeCursor),
     Refused(u8),
 }
 
 // A record, its number from 0 and the cursor behind it, or the number of the refusal and the cursor unchanged.
-#[derive(Drop)]
+#[derive(Clone, Copy)]
 pub enum ImplTypeStep {
     Record(RefRecord, u64, ImplTypeCursor),
     Refused(u8, ImplTypeCursor),
 }
 
 // How many records the chain has, or the number of the refusal.
-#[derive(Drop)]
+#[derive(Clone, Copy)]
 pub enum WalkAnswer {
     Took(usize),
     Refused(u8),

@@ -13,7 +13,7 @@ use records::answer::{
 };
 use records::field;
 
-#[derive(Drop)]
+#[derive(Clone, Copy)]
 pub struct FuncRecord {
     pub at: usize,
     pub len: usize,

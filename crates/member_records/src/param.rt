@@ -9,7 +9,7 @@ ghost use Rattle.records.specs.Told.{told_bool, told_i32, told_u32};
 use records::answer::{BoolAnswer, I32Answer, U32Answer};
 use records::field;
 
-#[derive(Drop)]
+#[derive(Clone, Copy)]
 pub struct ParameterInfo {
     pub at: usize,
     pub len: usize,

@@ -11,13 +11,13 @@ ghost use Rattle.member_records.specs.Told.{told_var};
 use records::answer::{I16Answer, I32Answer, PlaceAnswer, U16Answer, U32Answer, UsizeAnswer};
 use records::field;
 
-#[derive(Drop)]
+#[derive(Clone, Copy)]
 pub struct VarRecord {
     pub at: usize,
     pub len: usize,
 }
 
-#[derive(Drop)]
+#[derive(Clone, Copy)]
 pub enum VarAnswer {
     Value(VarRecord),
     Refused(u8),

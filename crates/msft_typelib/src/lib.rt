@@ -5,6 +5,9 @@
 // one number of at most 32 bits replies it; any other lays its values into the output, at their own
 // widths and little-endian, and replies how many bytes those are. A refusal replies minus its number and
 // writes nothing; an output that is too short is 12, behind all other refusals.
+
+#![tactic(auto)]
+
 mod arraydesc;
 mod descriptors;
 mod func;

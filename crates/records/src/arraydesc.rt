@@ -10,7 +10,7 @@ ghost use Rattle.records.specs.Told.{told_bound, told_i32, told_u16, told_usize}
 use crate::answer::{I32Answer, U16Answer, U32Answer, UsizeAnswer};
 use crate::field;
 
-#[derive(Drop)]
+#[derive(Clone, Copy)]
 pub struct ArrayDesc {
     pub at: usize,
     pub len: usize,
@@ -86,13 +86,13 @@ impl ArrayDesc {
 }
 
 // The bounds of one dimension, as SAFEARRAYBOUND.
-#[derive(Drop)]
+#[derive(Clone, Copy)]
 pub struct SafeArrayBound {
     pub elements: u32,
     pub lower: i32,
 }
 
-#[derive(Drop)]
+#[derive(Clone, Copy)]
 pub enum BoundAnswer {
     Value(SafeArrayBound),
     Refused(u8),

@@ -13,7 +13,7 @@ use crate::answer::{
 // The most bytes that are read (document 01, refusal 1).
 pub const LIMIT: usize = 16_777_216;
 
-#[derive(Drop)]
+#[derive(Clone, Copy)]
 pub enum Held {
     Inside,
     Refused(u8),

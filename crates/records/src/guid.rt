@@ -7,7 +7,7 @@ ghost use Rattle.records.specs.Told.{told_u16, told_u32, told_place};
 use crate::answer::{PlaceAnswer, U16Answer, U32Answer};
 use crate::field;
 
-#[derive(Drop)]
+#[derive(Clone, Copy)]
 pub struct Guid {
     pub at: usize,
     pub len: usize,

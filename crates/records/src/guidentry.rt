@@ -8,13 +8,13 @@ use crate::answer::{I32Answer, PlaceAnswer};
 use crate::field;
 use crate::guid::Guid;
 
-#[derive(Drop)]
+#[derive(Clone, Copy)]
 pub struct GuidEntry {
     pub at: usize,
     pub len: usize,
 }
 
-#[derive(Drop)]
+#[derive(Clone, Copy)]
 pub enum GuidAnswer {
     Value(Guid),
     Refused(u8),

@@ -10,7 +10,7 @@ ghost use Rattle.records.specs.Told.{told_i32, told_place, told_u16, told_usize}
 use crate::answer::{I32Answer, PlaceAnswer, U16Answer, UsizeAnswer};
 use crate::{answer, field};
 
-#[derive(Drop)]
+#[derive(Clone, Copy)]
 pub struct ImpFile {
     pub at: usize,
     pub len: usize,

@@ -7,7 +7,7 @@ ghost use Rattle.records.specs.Told.{told_i32, told_u32};
 use crate::answer::{I32Answer, U32Answer};
 use crate::field;
 
-#[derive(Drop)]
+#[derive(Clone, Copy)]
 pub struct ImpInfo {
     pub at: usize,
     pub len: usize,

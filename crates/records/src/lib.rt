@@ -3,6 +3,9 @@
 // A reading takes the record by value and the lent bytes, and replies the value or the number of a
 // refusal from document 01: 9 where the record is not wholly inside the bytes or is shorter than
 // its fixed part, 1 where more than 16,777,216 bytes are lent. Nothing is asked of the caller.
+
+#![tactic(auto)]
+
 pub mod answer;
 pub mod arraydesc;
 pub mod field;

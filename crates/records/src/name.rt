@@ -7,7 +7,7 @@ use crate::answer::{Place, PlaceAnswer};
 use crate::{answer, field};
 
 // Its offset in the name table, the place of its text, and the numbers before the text.
-#[derive(Drop)]
+#[derive(Clone, Copy)]
 pub struct NameEntry {
     pub offset: usize,
     pub text: Place,

@@ -7,7 +7,7 @@ use crate::answer::PlaceAnswer;
 use crate::{answer, field};
 use utf8::TextCheck;
 
-#[derive(Drop)]
+#[derive(Clone, Copy)]
 pub enum TextCheckAnswer {
     Value(TextCheck),
     Refused(u8),

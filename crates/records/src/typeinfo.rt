@@ -10,13 +10,13 @@ use crate::answer::{I16Answer, I32Answer, PlaceAnswer, U8Answer, U16Answer, U32A
 use crate::field;
 use crate::types::TypeKind;
 
-#[derive(Drop)]
+#[derive(Clone, Copy)]
 pub struct TypeInfoEntry {
     pub at: usize,
     pub len: usize,
 }
 
-#[derive(Drop)]
+#[derive(Clone, Copy)]
 pub enum KindAnswer {
     Value(TypeKind),
     Refused(u8),

@@ -7,7 +7,7 @@ use crate::answer::Place;
 use crate::arraydesc::ArrayDesc;
 
 // The kind of a type: TYPEKIND of OLE Automation.
-#[derive(Drop)]
+#[derive(Clone, Copy)]
 pub enum TypeKind {
     Enum,
     Record,
@@ -46,7 +46,7 @@ impl TypeKind {
 }
 
 // What a type field names, one level of it.
-#[derive(Drop)]
+#[derive(Clone, Copy)]
 pub enum TypeDescription {
     // The VARTYPE code of a base type.
     Base(u16),
@@ -60,7 +60,7 @@ pub enum TypeDescription {
 }
 
 // A constant, by the code of its type.
-#[derive(Drop)]
+#[derive(Clone, Copy)]
 pub enum ConstValue {
     Empty,
     Null,

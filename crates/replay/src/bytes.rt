@@ -3,7 +3,7 @@
 // byte first; or, of a text, a byte for its length and then its bytes; or, of a sheet, its bytes alone.
 
 // An answer that is no text. Where there is no second number, its width is 0.
-#[derive(Drop)]
+#[derive(Clone, Copy)]
 pub struct Bytes {
     pub first: u8,
     pub width: usize,

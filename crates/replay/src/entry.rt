@@ -23,7 +23,7 @@ const SMALLEST_LENT: usize = 5;
 
 const SMALLEST_QUESTION: usize = 15;
 
-#[derive(Drop)]
+#[derive(Clone, Copy)]
 pub struct Item {
     // What is asked, or LENT, BESIDE or KEPT.
     pub kind: u8,
@@ -39,19 +39,19 @@ pub struct Item {
 }
 
 // Where the bytes lie in the file that questions are about, and those that their library is parsed from.
-#[derive(Drop)]
+#[derive(Clone, Copy)]
 pub struct Lent {
     pub bytes: Place,
     pub own: Place,
 }
 
-#[derive(Drop)]
+#[derive(Clone, Copy)]
 pub enum ItemRead {
     Value(Item),
     Malformed,
 }
 
-#[derive(Drop)]
+#[derive(Clone, Copy)]
 pub enum CountRead {
     Value(u32),
     Malformed,

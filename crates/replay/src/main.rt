@@ -6,6 +6,9 @@
 // records, `libraries` those about whole libraries, and `beside` those about a library that is read
 // beside other bytes than it was parsed from. The Rust cannot hold such a one: these answers are by
 // documents 01 and 02. compare/oracle/src/bin/record makes the files, and its file.rs describes them.
+
+#![tactic(auto)]
+
 mod bytes;
 mod compare;
 mod constant;

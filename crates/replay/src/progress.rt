@@ -4,7 +4,7 @@ use std::num::{wrapping_add_u32, wrapping_add_u64};
 
 // The counts are of one kind, or of all. No file holds so much that they wrap, and sums that may wrap
 // need no proof.
-#[derive(Drop)]
+#[derive(Clone, Copy)]
 pub struct Progress {
     pub kind: u8,
     // The question's number among the file's items, from 0 on.

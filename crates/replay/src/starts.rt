@@ -13,7 +13,7 @@ use table_cursors::iterators::{
 use typelib::TypeLib;
 
 // A cursor by its numbers, or the number of the refusal.
-#[derive(Drop)]
+#[derive(Clone, Copy)]
 pub enum Start {
     At(State),
     Refused(u8),

@@ -19,7 +19,7 @@ use typelib::typeinfos::TypeInfoAnswer;
 use typelib::{TypeInfoIndex, TypeLib};
 
 // A cursor of any kind by its numbers. One that has fewer leaves the others 0.
-#[derive(Drop)]
+#[derive(Clone, Copy)]
 pub struct State {
     pub pos: usize,
     pub end: usize,
@@ -30,7 +30,7 @@ pub struct State {
 }
 
 // What a step has come to.
-#[derive(Drop)]
+#[derive(Clone, Copy)]
 pub struct Stepped {
     pub state: State,
     pub progress: Progress,

@@ -1,4 +1,7 @@
 // The bytes of a row, laid into an output.
+
+#![tactic(auto)]
+
 ghost use Rattle.std.specs.Prelude.{◌∷◌, [], ◌++◌, ◌≡◌};
 ghost use Rattle.records.specs.Answer.{value};
 ghost use Rattle.records.specs.Told.{told_place};

@@ -1,4 +1,7 @@
 // Answers as rows.
+
+#![tactic(auto)]
+
 pub mod row;
 
 ghost use Rattle.std.specs.Prelude.{cond, ◌≡◌};

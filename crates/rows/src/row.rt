@@ -6,7 +6,7 @@ use table_cursors::iterators::NameCursor;
 use typelib::references::ImpFileAnswer;
 
 // Numbers of eight bytes each.
-#[derive(Drop)]
+#[derive(Clone, Copy)]
 pub enum Longs {
     One(u64),
     Two(u64, u64),
@@ -17,7 +17,7 @@ pub enum Longs {
     Seven(u64, u64, u64, u64, u64, u64, u64),
 }
 
-#[derive(Drop)]
+#[derive(Clone, Copy)]
 pub enum Row {
     Plain(Longs),
     Words(u32, u32),

@@ -1,5 +1,8 @@
 // The sheet of a library: its description laid out in bytes (document 01, "The sheet (added)"). Two sheets are equal exactly
 // when the two libraries have the same description (`demand-3` of describe/specs/Demand3.antt, over this call's contract).
+
+#![tactic(auto)]
+
 ghost use Rattle.std.specs.Prelude.{◌≤◌};
 ghost use Rattle.records.specs.Told.{told_usize};
 ghost use Rattle.description.specs.Sheet.{edition-one};

@@ -1,4 +1,7 @@
 // What a type is based on: the interface under it, the interfaces that it implements, or the type that it names.
+
+#![tactic(auto)]
+
 ghost use Rattle.std.specs.Prelude.{◌≡◌};
 ghost use Rattle.records.specs.Answer.{value};
 ghost use Rattle.impltypes.specs.Chain.{walk_of, told_walk};

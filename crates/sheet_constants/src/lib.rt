@@ -1,5 +1,8 @@
 // Emitters of constants (document 01, "The sheet (added)"): the code of the case that was read, and then
 // the value, laid out by the shape that the code has.
+
+#![tactic(auto)]
+
 ghost use Rattle.std.specs.Prelude.{◌≡◌};
 ghost use Rattle.records.specs.Answer.{value};
 ghost use Rattle.records.specs.Told.{told_place};
@@ -22,7 +25,7 @@ use typelib::Numbers;
 mod bits;
 
 // What a constant holds: nothing, a number by its bits, or a place in the lent bytes.
-#[derive(Drop)]
+#[derive(Clone, Copy)]
 pub enum Content {
     Bare,
     Digits(u64),
@@ -31,7 +34,7 @@ pub enum Content {
 
 // How a constant's value is laid out: no bytes, a number of so many bytes, a byte that is 0 or 1, so many
 // bytes as they are, or a text, which may be null.
-#[derive(Drop)]
+#[derive(Clone, Copy)]
 pub enum Shape {
     Empty,
     Number(usize),

@@ -17,7 +17,7 @@ use util::NEGATIVE;
 
 // Where the rows of a type's functions start: the identifiers, and the offsets of the names. (A row that is not there starts at the
 // end of the library, where no word is.)
-#[derive(Drop)]
+#[derive(Clone, Copy)]
 pub struct Rows {
     pub memids: usize,
     pub names: usize,

@@ -3,6 +3,9 @@
 // time. The sheet call measures with its first figure.
 //
 // A count stops at the last place, 16,777,217 (`emit::PAST`). Where a part ends is a place of `emit`: a refusal stays in it.
+
+#![tactic(auto)]
+
 ghost use Rattle.std.specs.Prelude.{◌≡◌};
 ghost use Rattle.records.specs.Answer.{value};
 ghost use Rattle.description.specs.Sheet.{edition-one};
@@ -46,7 +49,7 @@ pub(crate) const FIELDS: usize = 65_536;
 const MANY: usize = 81_920;
 
 // The sheet's length in bytes, and what it reads. A figure above 16,777,216 is given as 16,777,217.
-#[derive(Drop)]
+#[derive(Clone, Copy)]
 pub struct SheetFigures {
     pub length: u32,
     pub functions: u32,
@@ -55,14 +58,14 @@ pub struct SheetFigures {
     pub references: u32,
 }
 
-#[derive(Drop)]
+#[derive(Clone, Copy)]
 pub enum FiguresAnswer {
     Value(SheetFigures),
     Refused(u8),
 }
 
 // Where the parts so far end, and what they read.
-#[derive(Drop)]
+#[derive(Clone, Copy)]
 pub struct Count {
     pub to: usize,
     pub functions: usize,
@@ -72,7 +75,7 @@ pub struct Count {
 }
 
 // The same of a part that has neither functions nor parameters nor variables to count.
-#[derive(Drop)]
+#[derive(Clone, Copy)]
 pub struct Ends {
     pub to: usize,
     pub references: usize,

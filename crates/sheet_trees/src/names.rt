@@ -16,7 +16,7 @@ const LONGEST: usize = 12 + 255;
 
 // Where the table of names starts, and how many of its offsets are near: a name there is wholly inside the table, whatever its
 // length. In a table that passes the file's end no offset is near.
-#[derive(Drop)]
+#[derive(Clone, Copy)]
 pub struct Names {
     pub at: u32,
     pub near: u32,

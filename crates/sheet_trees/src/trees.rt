@@ -19,14 +19,14 @@ use util::NEGATIVE;
 const LEVELS: usize = 32;
 
 // The type field under a description, if there is one.
-#[derive(Drop)]
+#[derive(Clone, Copy)]
 pub enum Inner {
     Field(u32),
     Nothing,
 }
 
 // Where a description ends, and what is under it.
-#[derive(Drop)]
+#[derive(Clone, Copy)]
 pub struct Level {
     pub to: usize,
     pub inner: Inner,

@@ -1,4 +1,7 @@
 // A type of a sheet: its head and names, what it is based on, and its members.
+
+#![tactic(auto)]
+
 ghost use Rattle.records.specs.Answer.{value};
 ghost use Rattle.sheet_bases.specs.Types.{head_bytes, names_bytes, type_at_emitted, type_emitted};
 ghost use Rattle.emit.specs.Emit.{Emits};

@@ -22,65 +22,65 @@ use records::typeinfo::TypeInfoEntry;
 use typelib::typeinfos::TypeInfoAnswer;
 use typelib::{Numbers, TypeInfoIndex, TypeLib, tables};
 
-#[derive(Drop)]
+#[derive(Clone, Copy)]
 pub struct GuidCursor {
     pub pos: usize,
     pub end: usize,
     pub yielded: u64,
 }
 
-#[derive(Drop)]
+#[derive(Clone, Copy)]
 pub enum GuidsAnswer {
     Value(GuidCursor),
     Refused(u8),
 }
 
-#[derive(Drop)]
+#[derive(Clone, Copy)]
 pub enum GuidStep {
     Record(GuidEntry, u64, GuidCursor),
     Refused(u8, GuidCursor),
 }
 
-#[derive(Drop)]
+#[derive(Clone, Copy)]
 pub struct ImportCursor {
     pub pos: usize,
     pub end: usize,
     pub yielded: u64,
 }
 
-#[derive(Drop)]
+#[derive(Clone, Copy)]
 pub enum ImportsAnswer {
     Value(ImportCursor),
     Refused(u8),
 }
 
-#[derive(Drop)]
+#[derive(Clone, Copy)]
 pub enum ImportStep {
     Record(ImpInfo, u64, ImportCursor),
     Refused(u8, ImportCursor),
 }
 
-#[derive(Drop)]
+#[derive(Clone, Copy)]
 pub struct ImpFileCursor {
     pub pos: usize,
     pub end: usize,
     pub yielded: u64,
 }
 
-#[derive(Drop)]
+#[derive(Clone, Copy)]
 pub enum ImpFilesAnswer {
     Value(ImpFileCursor),
     Refused(u8),
 }
 
-#[derive(Drop)]
+#[derive(Clone, Copy)]
 pub enum ImpFileStep {
     Record(ImpFile, u64, ImpFileCursor),
     Refused(u8, ImpFileCursor),
 }
 
 // Over the name table from `start`, whose entries are counted from there.
-#[derive(Drop)]
+#[derive(Clone, Copy)]
 pub struct NameCursor {
     pub pos: usize,
     pub end: usize,
@@ -88,36 +88,36 @@ pub struct NameCursor {
     pub yielded: u64,
 }
 
-#[derive(Drop)]
+#[derive(Clone, Copy)]
 pub enum NamesAnswer {
     Value(NameCursor),
     Refused(u8),
 }
 
-#[derive(Drop)]
+#[derive(Clone, Copy)]
 pub enum NameStep {
     Record(NameEntry, u64, NameCursor),
     Refused(u8, NameCursor),
 }
 
-#[derive(Drop)]
+#[derive(Clone, Copy)]
 pub enum NameEntryAnswer {
     Value(NameEntry),
     Refused(u8),
 }
 
-#[derive(Drop)]
+#[derive(Clone, Copy)]
 pub struct TypeInfoCursor {
     pub index: TypeInfoIndex,
 }
 
-#[derive(Drop)]
+#[derive(Clone, Copy)]
 pub enum TypeInfosAnswer {
     Value(TypeInfoCursor),
     Refused(u8),
 }
 
-#[derive(Drop)]
+#[derive(Clone, Copy)]
 pub enum TypeInfoStep {
     Record(TypeInfoEntry, u64, TypeInfoCursor),
     Refused(u8, TypeInfoCursor),

@@ -3,6 +3,9 @@
 //
 // A text is written to the front of a lent output, and its length is replied; refusal 12 where the output is
 // shorter. A refusal writes nothing. Nothing is asked of the caller.
+
+#![tactic(auto)]
+
 pub mod guid;
 mod text;
 pub mod types;

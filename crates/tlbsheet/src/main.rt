@@ -1,5 +1,8 @@
 // The sheet program (document 01, "Edges"): reads a library from standard input and prints its sheet in
 // lower-case hex, or the number of its refusal, and a newline.
+
+#![tactic(auto)]
+
 mod hex;
 
 ghost use Rattle.std.specs.Prelude.{◌≡◌, take};

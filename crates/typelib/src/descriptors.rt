@@ -20,25 +20,25 @@ const TYPE_TABLE: usize = 9;
 const ARRAY_TABLE: usize = 10;
 
 // The two words of a type descriptor, each the 32-bit pattern of a signed number.
-#[derive(Drop)]
+#[derive(Clone, Copy)]
 pub struct WordPair {
     pub first: u32,
     pub second: u32,
 }
 
-#[derive(Drop)]
+#[derive(Clone, Copy)]
 pub enum PairAnswer {
     Value(WordPair),
     Refused(u8),
 }
 
-#[derive(Drop)]
+#[derive(Clone, Copy)]
 pub enum ArrayDescAnswer {
     Value(ArrayDesc),
     Refused(u8),
 }
 
-#[derive(Drop)]
+#[derive(Clone, Copy)]
 pub enum DescriptionAnswer {
     Value(TypeDescription),
     Refused(u8),

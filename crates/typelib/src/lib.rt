@@ -3,6 +3,9 @@
 // A library is its fifteen segment pairs, the count of its typeinfos and the start of their offset table, by value,
 // beside the lent bytes. Beside other bytes it is read by its own numbers, with the same checks. Every public reading
 // takes it so. Below the entries its numbers are lent, as a reference to a plain array: nothing of it is copied there.
+
+#![tactic(auto)]
+
 pub mod descriptors;
 mod header;
 pub mod names;
@@ -24,24 +27,24 @@ use util::NEGATIVE;
 // typeinfos, 31 where their offsets start.
 pub type Numbers = [u32; 32];
 
-#[derive(Drop)]
+#[derive(Clone, Copy)]
 pub struct TypeLib {
     pub numbers: Numbers,
 }
 
 // The three kinds of number that the source tells apart in its comments: a typeinfo's byte offset in segment 0 (the 32-bit
 // pattern of a signed number), its index, and a byte offset in the import segment.
-#[derive(Drop)]
+#[derive(Clone, Copy)]
 pub struct TypeInfoOffset(pub u32);
 
-#[derive(Drop)]
+#[derive(Clone, Copy)]
 pub struct TypeInfoIndex(pub usize);
 
-#[derive(Drop)]
+#[derive(Clone, Copy)]
 pub struct ImportOffset(pub u32);
 
 // Number 0 and the library, or the number of the refusal and zeros.
-#[derive(Drop)]
+#[derive(Clone, Copy)]
 pub struct Parsed {
     pub number: u8,
     pub lib: TypeLib,

@@ -17,26 +17,26 @@ const IMPORT_TABLE: usize = 1;
 
 const IMPORT_FILES: usize = 2;
 
-#[derive(Drop)]
+#[derive(Clone, Copy)]
 pub enum ImpFileAnswer {
     Value(ImpFile),
     Refused(u8),
 }
 
-#[derive(Drop)]
+#[derive(Clone, Copy)]
 pub enum IndexAnswer {
     Value(TypeInfoIndex),
     Refused(u8),
 }
 
 // A typeinfo of this library; or an import record, and the import file that it names.
-#[derive(Drop)]
+#[derive(Clone, Copy)]
 pub enum ResolvedHreftype {
     Internal(TypeInfoIndex),
     External(ImpInfo, ImpFileAnswer),
 }
 
-#[derive(Drop)]
+#[derive(Clone, Copy)]
 pub enum ResolvedAnswer {
     Value(ResolvedHreftype),
     Refused(u8),

@@ -16,13 +16,13 @@ use util::NEGATIVE;
 
 const TYPEINFO_TABLE: usize = 0;
 
-#[derive(Drop)]
+#[derive(Clone, Copy)]
 pub enum OffsetAnswer {
     Value(TypeInfoOffset),
     Refused(u8),
 }
 
-#[derive(Drop)]
+#[derive(Clone, Copy)]
 pub enum TypeInfoAnswer {
     Value(TypeInfoEntry),
     Refused(u8),
@@ -174,13 +174,13 @@ pub fn var_name_offset(s: &[u8], ti: TypeInfoEntry, index: usize) -> I32Answer
 }
 
 // The declared counts of a typeinfo.
-#[derive(Drop)]
+#[derive(Clone, Copy)]
 pub struct Counts {
     pub funcs: u16,
     pub vars: u16,
 }
 
-#[derive(Drop)]
+#[derive(Clone, Copy)]
 pub enum CountsAnswer {
     Value(Counts),
     Refused(u8),

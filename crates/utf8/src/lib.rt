@@ -2,6 +2,9 @@
 //
 // Every read is at the index that the count of bytes looked at is, and is followed by a step of one: so each byte is looked at once, and
 // the count that is replied is that index. Bytes are read in two places, `ascii` and `tail`.
+
+#![tactic(auto)]
+
 ghost use Rattle.std.specs.Prelude.{◌≡◌, true, ◌↔◌, ◌≤◌, length};
 ghost use Rattle.utf8.specs.Utf8.{In, LookedAt, Text, after_first, utf8};
 ghost use Rattle.utf8.specs.Looked.{checked, looked_at};
@@ -9,14 +12,14 @@ ghost use Rattle.utf8.specs.Parts.{Ascii, Reads, TailRead, unpacked};
 
 // Whether bytes are text in UTF-8, and how many of them were looked at; of a part of the check, whether a text may go on so far, and how many
 // were looked at so far.
-#[derive(Drop)]
+#[derive(Clone, Copy)]
 pub struct TextCheck {
     pub valid: bool,
     pub looked: usize,
 }
 
 // A stretch of ASCII was read, and the byte behind it, which is not ASCII and is counted, too; `byte` is 0 where none is.
-#[derive(Drop)]
+#[derive(Clone, Copy)]
 struct Stretch {
     byte: u8,
     looked: usize,

@@ -2,6 +2,9 @@
 //
 // A read that would pass the end of the slice replies Nothing. The contracts cite `specs/Read.antt`
 // (one definition over the width) and `specs/Real.antt` (floats by their bits).
+
+#![tactic(auto)]
+
 ghost use Rattle.std.specs.Prelude.{◌≡◌, ◌+◌, ◌/◌, ◌%◌, ◌^◌, ◌≤◌, ◌<◌, length};
 ghost use Rattle.std.specs.Float.{binary32, binary64};
 ghost use Rattle.std.proofs.Math.Option.{some};
@@ -14,37 +17,37 @@ ghost use Rattle.util.specs.Told.{told_u16, told_u32, told_u64, told_i16, told_i
 // From this number on, a 32-bit pattern is that of a negative number.
 pub const NEGATIVE: u32 = 0x8000_0000;
 
-#[derive(Drop)]
+#[derive(Clone, Copy)]
 pub enum U16Read {
     Value(u16),
     Nothing,
 }
 
-#[derive(Drop)]
+#[derive(Clone, Copy)]
 pub enum U32Read {
     Value(u32),
     Nothing,
 }
 
-#[derive(Drop)]
+#[derive(Clone, Copy)]
 pub enum U64Read {
     Value(u64),
     Nothing,
 }
 
-#[derive(Drop)]
+#[derive(Clone, Copy)]
 pub enum I16Read {
     Value(i16),
     Nothing,
 }
 
-#[derive(Drop)]
+#[derive(Clone, Copy)]
 pub enum I32Read {
     Value(i32),
     Nothing,
 }
 
-#[derive(Drop)]
+#[derive(Clone, Copy)]
 pub enum I64Read {
     Value(i64),
     Nothing,
@@ -52,14 +55,14 @@ pub enum I64Read {
 
 // A float; or, where the pattern is a NaN's, its bits: the language gives a float for a pattern only
 // where the pattern is no NaN's.
-#[derive(Drop)]
+#[derive(Clone, Copy)]
 pub enum F32Read {
     Value(f32),
     Nan(u32),
     Nothing,
 }
 
-#[derive(Drop)]
+#[derive(Clone, Copy)]
 pub enum F64Read {
     Value(f64),
     Nan(u64),
