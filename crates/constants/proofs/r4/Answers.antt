@@ -1,0 +1,15 @@
+use Rattle.util.specs.Told.{told_f32}
+use Rattle.records.specs.AnswerLaws.{tells}
+use Rattle.constants.specs.Constants.{r4_as}
+use Rattle.constants.specs.ConstantLaws.{real-is, real-never}
+use mathlib.Core.Path.{ap}
+use Rattle.constants.proofs.r4.Goals as goal
+
+pub returns-in-Value : goal.returns-in-Value
+returns-in-Value c = ap r4_as (real-is (tells told_f32 c.in-Value.is c.float32.ensures))
+
+pub returns-in-Nan : goal.returns-in-Nan
+returns-in-Nan c = ap r4_as (real-is (tells told_f32 c.in-Nan.is c.float32.ensures))
+
+pub returns-in-Nothing : goal.returns-in-Nothing
+returns-in-Nothing c = real-never (tells told_f32 c.in-Nothing.is c.float32.ensures)

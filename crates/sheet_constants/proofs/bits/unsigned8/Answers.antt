@@ -1,0 +1,20 @@
+use mir.ValLaws.{of_z_fits}
+use mir.Syntax.{w8}
+use native.Mathlib.Omega.{arith}
+use Rattle.sheet_constants.proofs.Twos.{negative, other, twice}
+use Rattle.sheet_constants.proofs.bits.unsigned8.Goals as goal
+
+pub overflow_cast-result : goal.overflow_cast-result
+overflow_cast-result c = rw (negative w8 c.args.x c.ranges.x c.if-x-lt0.true) (tt, record { fits = omega arith })
+
+pub overflow_sub-result : goal.overflow_sub-result
+overflow_sub-result c = rw (negative w8 c.args.x c.ranges.x c.if-x-lt0.true) (omega arith)
+
+pub overflow_cast-result-else-x-lt0 : goal.overflow_cast-result-else-x-lt0
+overflow_cast-result-else-x-lt0 c = rw (other w8 c.args.x c.ranges.x c.if-x-lt0.false) (tt, of_z_fits w8 c.args.x c.ranges.x)
+
+pub returns-then-x-lt0 : goal.returns-then-x-lt0
+returns-then-x-lt0 c = rw (negative w8 c.args.x c.ranges.x c.if-x-lt0.true) (twice w8 c.args.x c.ranges.x)
+
+pub returns-else-x-lt0 : goal.returns-else-x-lt0
+returns-else-x-lt0 c = rw (other w8 c.args.x c.ranges.x c.if-x-lt0.false)

@@ -1,0 +1,10 @@
+use Rattle.emit.specs.Laws.{known}
+use Rattle.sheet_trees.proofs.PartLaws.{memid-is, memid-missing}
+use Rattle.typelib.specs.TableLaws.{pattern}
+use Rattle.sheet_trees.proofs.values.put_opt_memid.Goals as goal
+
+pub returns-in_default : goal.returns-in_default
+returns-in_default c = known (memid-missing c.in_default.is) c.put_u8.ensures
+
+pub returns : goal.returns
+returns c = known (memid-is c.in-Value.is (pattern c.in-Value.x _ (record { sfits = c.known_told-1.given.0.1 }) c.unsigned32.ensures)) c.put_le.ensures

@@ -1,0 +1,15 @@
+use Rattle.typelib.specs.Names.{name_text}
+use Rattle.records.specs.Told.{told_i32}
+use Rattle.records.specs.AnswerLaws.{tells, bind-value, bind-refused}
+use mir.ValLaws.{to_z-of_z}
+use mir.Val.{of_z}
+use mir.Syntax.{w32}
+use lib.IntN.{ℤ}
+use mathlib.Core.Path.{◌∙◌, ap}
+use Rattle.typelib.proofs.TypeLib.lib_name.Goals as goal
+
+pub returns-in-Value : goal.returns-in-Value
+returns-in-Value c = bind-value _ _ _ _ (tells told_i32 c.in-Value.is c.name_offset.ensures) (c.name.ensures ∙ ap (λ (z : ℤ). name_text c.args.s.now c.args.self (of_z w32 z)) (to_z-of_z w32 c.in-Value.offset (record { sfits = c.known_told-1.given.0.1 })))
+
+pub returns-in-Refused : goal.returns-in-Refused
+returns-in-Refused c = bind-refused _ _ _ (tells told_i32 c.in-Refused.is c.name_offset.ensures)

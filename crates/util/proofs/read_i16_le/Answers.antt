@@ -1,0 +1,14 @@
+use Rattle.util.specs.Told.{told_u16}
+use Rattle.util.specs.Read.{mapped}
+use mir.ValLaws.{to_z-of_z}
+use mir.Val.{to_z}
+use mir.Syntax.{w16}
+use mathlib.Core.Option.{some}
+use mathlib.Core.Path.{◌∙◌, ap, sym}
+use Rattle.util.proofs.read_i16_le.Goals as goal
+
+pub returns-in-Value : goal.returns-in-Value
+returns-in-Value c = ap some (to_z-of_z w16 _ (record { sfits = c.signed16.type_inv }) ∙ c.signed16.ensures) ∙ ap (mapped (to_z w16)) (sym (ap told_u16 c.in-Value.is) ∙ c.read_u16_le.ensures)
+
+pub returns-in-Nothing : goal.returns-in-Nothing
+returns-in-Nothing c = ap (mapped (to_z w16)) (sym (ap told_u16 c.in-Nothing.is) ∙ c.read_u16_le.ensures)
