@@ -101,6 +101,7 @@ pub enum ConstValue {
 
 impl ConstValue {
     // The VARTYPE code.
+    #[tactic(auto, unfolding(crate::specs::Types::vt_of))]
     pub fn vt(self) -> u16
         ensures { result ≡ vt_of self }
     {

@@ -15,4 +15,4 @@ returns-in-8 c = number_is 8 _ _ _ _ _ c.in-8.is c.stored_width.ensures.0 c.requ
 
 pub returns-in_default : goal.returns-in_default
 unfolding le
-returns-in_default c = ap (λ (w : ℕ). le w c.args.s.now c.args.at) (width-number c.args.vt c.requires.1 (λ e. c.in_default.rest.0.0.1 (c.stored_width.ensures.0 ∙ e)) (λ e. c.in_default.rest.0.1 (c.stored_width.ensures.0 ∙ e)) (λ e. c.in_default.rest.1 (c.stored_width.ensures.0 ∙ e)))
+returns-in_default c = ap (λ (w : ℕ). le w c.args.s.now c.args.at) (width-number c.args.vt c.requires.1 (λ e. c.in_default.in_default-own.rest.0.0.1 (c.stored_width.ensures.0 ∙ e)) (λ e. c.in_default.in_default-own.rest.0.1 (c.stored_width.ensures.0 ∙ e)) (λ e. c.in_default.in_default-own.rest.1 (c.stored_width.ensures.0 ∙ e)))

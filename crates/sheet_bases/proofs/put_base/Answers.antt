@@ -17,4 +17,4 @@ pub returns-in-6 : goal.returns-in-6
 returns-in-6 c = known (base-aliased _ _ _ _ c.word_at-in-6.ensures c.in-6.is) c.put_tree.ensures
 
 pub returns-in_default : goal.returns-in_default
-returns-in_default c = known (base-absent _ _ _ _ c.in_default.rest.0.0.0.1 c.in_default.rest.0.0.1 c.in_default.rest.0.1 c.in_default.rest.1) (skip _ _)
+returns-in_default c = known (base-absent _ _ _ _ c.in_default.in_default-own.rest.0.0.0.1 c.in_default.in_default-own.rest.0.0.1 c.in_default.in_default-own.rest.0.1 c.in_default.in_default-own.rest.1) (skip _ _)

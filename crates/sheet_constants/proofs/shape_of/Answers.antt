@@ -15,4 +15,4 @@ pub returns-in-116 : goal.returns-in-116
 returns-in-116 c = ap marked (sym c.in-116.is) ∙ mark-is c.args.code c.mark_of-mark.ensures
 
 pub returns-in_default : goal.returns-in_default
-returns-in_default c = mark-other _ c.in_default.rest.0.0.0.1 c.in_default.rest.0.0.1 c.in_default.rest.0.1 c.in_default.rest.1 ∙ mark-is c.args.code c.mark_of-mark.ensures
+returns-in_default c = mark-other _ c.in_default.in_default-own.rest.0.0.0.1 c.in_default.in_default-own.rest.0.0.1 c.in_default.in_default-own.rest.0.1 c.in_default.in_default-own.rest.1 ∙ mark-is c.args.code c.mark_of-mark.ensures

@@ -1,6 +1,6 @@
 use Rattle.emit.specs.Laws.{advance-to}
 use Rattle.emit.specs.Emit.{advance}
-use mathlib.Core.Logic.{⊎_elim}
+use Rattle.sheet_sizes.proofs.ahead.Goals.{then-n-le-PAST+else-to-n, else-n-le-PAST}
 use native.Mathlib.Omega.{arith}
 use Rattle.sheet_sizes.proofs.ahead.Goals as goal
 
@@ -9,8 +9,8 @@ returns-then-to-n c = advance-to _ _ (omega arith)
 
 pub returns-then-to-lt-PAST : goal.returns-then-to-lt-PAST
 unfolding advance
-returns-then-to-lt-PAST c = ⊎_elim (λ w. omega arith) (λ w. omega arith) c.if-n-le-PAST.branch
+returns-then-to-lt-PAST c = elim c.if-n-le-PAST.branch [ then-n-le-PAST+else-to-n w ↦ omega arith | else-n-le-PAST w ↦ omega arith ]
 
 pub returns-else-to-lt-PAST : goal.returns-else-to-lt-PAST
 unfolding advance
-returns-else-to-lt-PAST c = ⊎_elim (λ w. omega arith) (λ w. omega arith) c.if-n-le-PAST.branch
+returns-else-to-lt-PAST c = elim c.if-n-le-PAST.branch [ then-n-le-PAST+else-to-n w ↦ omega arith | else-n-le-PAST w ↦ omega arith ]

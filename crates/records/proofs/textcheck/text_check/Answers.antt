@@ -10,7 +10,7 @@ pub returns-in-Value : goal.returns-in-Value
 returns-in-Value c = let e = c.part.ensures in
     map-value _ _ _ _
     (tells told_place c.in-Value.is c.record_place.ensures)
-    (is-checked _ _ (c.check.ensures.valid_value ∙ ap utf8 e) (c.check.ensures.variant.1.0 ∙ ap looked_at e))
+    (is-checked _ _ (c.check.ensures.valid_value ∙ ap utf8 e) (c.check.ensures.looked_value ∙ ap looked_at e))
 
 pub returns-in-Refused : goal.returns-in-Refused
 returns-in-Refused c = map-refused _ _ _ (tells told_place c.in-Refused.is c.record_place.ensures)

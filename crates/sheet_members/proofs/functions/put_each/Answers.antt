@@ -35,7 +35,7 @@ pub returns-in_default : goal.returns-in_default
 returns-in_default c = (left-none c.loop-t.invariant.0 (laid_none (func_step c.args.s.now) (λ (x : FuncCursor). x.remaining) _ _ _ (tells told_func_step c.in_default.is c.step.ensures)), λ h. counted_none (func_step c.args.s.now) (λ (x : FuncCursor). x.remaining) _ _ (tells told_func_step c.in_default.is c.step.ensures) c.loop-t.invariant.3)
 
 pub put_function-t-requires : goal.put_function-t-requires
-put_function-t-requires c = let s = c.args.s.now in let ti = c.args.ti in let i = c.in-Record.number in let r = c.func_rows-rows.result in (c.names_of-names.ensures, (ap found c.word-memid.ensures ∙ found-signed (or_nine (read 4 s (r.memids + 4 * i))) (func_memid s ti i) (memids-are s ti c.func_rows-rows.ensures i), ap found c.word-name_offset.ensures ∙ found-signed (or_nine (read 4 s (r.names + 4 * i))) (func_name_offset s ti i) (names-are s ti c.func_rows-rows.ensures i)))
+put_function-t-requires c = let s = c.args.s.now in let ti = c.args.ti in let i = c.in-Record.number in let r = c.func_rows-rows.result in record { near = c.names_of-names.ensures; memid_value = ap found c.word-memid.ensures ∙ found-signed (or_nine (read 4 s (r.memids + 4 * i))) (func_memid s ti i) (memids-are s ti c.func_rows-rows.ensures i); name_offset_value = ap found c.word-name_offset.ensures ∙ found-signed (or_nine (read 4 s (r.names + 4 * i))) (func_name_offset s ti i) (names-are s ti c.func_rows-rows.ensures i) }
 
 pub loop-t-smaller : goal.loop-t-smaller
 loop-t-smaller c = let e = tells told_func_step c.in-Record.is c.step.ensures in let t = func-turn c.args.s.now (omega (arith, c.loop-t.invariant.1, c.loop-t.invariant.2)) e in omega (arith, t.lessens.some, t.lessens.fewer)

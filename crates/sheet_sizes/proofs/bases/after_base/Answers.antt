@@ -17,4 +17,4 @@ pub returns-in-6 : goal.returns-in-6
 returns-in-6 c = record { ending = known-e (base-aliased _ _ _ _ c.word_at-in-6.ensures c.in-6.is) c.after_tree.ensures.ending; known = c.after_tree.ensures.known }
 
 pub returns-in_default : goal.returns-in_default
-returns-in_default c = record { ending = known-e (base-absent _ _ _ _ c.in_default.rest.0.0.0.1 c.in_default.rest.0.0.1 c.in_default.rest.0.1 c.in_default.rest.1) (nothing-e _); known = c.requires }
+returns-in_default c = record { ending = known-e (base-absent _ _ _ _ c.in_default.in_default-own.rest.0.0.0.1 c.in_default.in_default-own.rest.0.0.1 c.in_default.in_default-own.rest.0.1 c.in_default.in_default-own.rest.1) (nothing-e _); known = c.requires }

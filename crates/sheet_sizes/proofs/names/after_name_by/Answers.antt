@@ -12,4 +12,4 @@ pub after_name-requires : goal.after_name-requires
 after_name-requires c = c.requires
 
 pub returns : goal.returns
-returns c = known (name-by _ _ c.in-Value.is (pattern c.in-Value.x _ (record { sfits = c.known_told-1.given.0.1 }) c.unsigned32.ensures)) c.after_name.ensures
+returns c = known (name-by _ _ c.in-Value.is (pattern c.in-Value.x _ (record { sfits = c.in-Value.known_told-1-own.given.0.1 }) c.unsigned32.ensures)) c.after_name.ensures

@@ -7,13 +7,13 @@ use Rattle.sheet_sizes.proofs.MemberLaws.{parameters-all, parameters-one, parame
 use Rattle.sheet_sizes.proofs.parameters.after_each.Goals as goal
 
 pub loop-i-init : goal.loop-i-init
-loop-i-init c = (λ k. left-all, c.requires.room.1, refl)
+loop-i-init c = (λ k. left-all, c.requires.known, refl)
 
 pub overflow_mul-i : goal.overflow_mul-i
-overflow_mul-i c = omega (arith, c.requires.room.0.whole, c.requires.room.0.inside, c.requires.room.0.few)
+overflow_mul-i c = omega (arith, c.requires.room.whole, c.requires.room.inside, c.requires.room.few)
 
 pub overflow_add-cursor : goal.overflow_add-cursor
-overflow_add-cursor c = omega (arith, c.requires.room.0.whole, c.requires.room.0.inside, c.requires.room.0.few)
+overflow_add-cursor c = omega (arith, c.requires.room.whole, c.requires.room.inside, c.requires.room.few)
 
 pub after_parameter-t-requires : goal.after_parameter-t-requires
 after_parameter-t-requires c = record { near = c.requires.near; known = c.loop-i.invariant.1 }
@@ -25,10 +25,10 @@ pub loop-i-smaller : goal.loop-i-smaller
 loop-i-smaller c = omega arith
 
 pub loop-i-preserved : goal.loop-i-preserved
-loop-i-preserved c = (λ k. left_less (c.loop-i.invariant.0 k) (c.after_parameter-t.ensures.ending.is k) (parameters-one _ _ _ _ _ c.requires.room.0 c.loop-i-test.true), c.after_parameter-t.ensures.known_2, c.known-1.given ∙ c.loop-i.invariant.2)
+loop-i-preserved c = (λ k. left_less (c.loop-i.invariant.0 k) (c.after_parameter-t.ensures.ending.is k) (parameters-one _ _ _ _ _ c.requires.room c.loop-i-test.true), c.after_parameter-t.ensures.known_2, c.known-1.given ∙ c.loop-i.invariant.2)
 
 pub shape_of-known : goal.shape_of-known
 shape_of-known c = c.loop-i.invariant.2
 
 pub returns : goal.returns
-returns c = record { ending = record { is = λ k. known (parameters-all c.args.s.now (library c.args.lib.now) c.args.cursor c.args.func c.requires.room.0) (left-none (c.loop-i.invariant.0 k) (parameters-end c.args.s.now (library c.args.lib.now) c.args.cursor c.args.func _ (omega arith))) }; known_2 = c.loop-i.invariant.1 }
+returns c = record { ending = record { is = λ k. known (parameters-all c.args.s.now (library c.args.lib.now) c.args.cursor c.args.func c.requires.room) (left-none (c.loop-i.invariant.0 k) (parameters-end c.args.s.now (library c.args.lib.now) c.args.cursor c.args.func _ (omega arith))) }; known_2 = c.loop-i.invariant.1 }

@@ -7,7 +7,7 @@ use Rattle.sheet_sizes.proofs.CountLaws.{ahead-measured, known, then, bytes, par
 use Rattle.sheet_sizes.proofs.parameters.after_parameters.Goals as goal
 
 pub after_each-each-requires : goal.after_each-each-requires
-after_each-each-requires c = (c.requires.near, (room _ _ c.params.ensures (ap told_params c.in-Value.is), c.requires.known))
+after_each-each-requires c = record { near = c.requires.near; room = room _ _ c.params.ensures (ap told_params c.in-Value.is); known = c.requires.known }
 
 pub returns-in-Value : goal.returns-in-Value
 returns-in-Value c = record { counting = known (parameters-some _ _ _ _ c.params.ensures (ap told_params c.in-Value.is) (all-yielded _ _ (room _ _ c.params.ensures (ap told_params c.in-Value.is)))) (then (parameters-part c.args.from _ _ (ahead-measured _ c.ahead-t.ensures (0 ∷ 0 ∷ []) refl) _ c.ahead.ensures) (c.after_each-each.ensures.ending.is (record { to = c.ahead-t.result; functions = c.args.from.functions; parameters = c.ahead.result; variables = c.args.from.variables; references = c.args.from.references }))); known_2 = c.after_each-each.ensures.known_2 }

@@ -7,6 +7,8 @@ pub returns-in_default : goal.returns-in_default
 returns-in_default c = record { emits = known (in-missing _ _ _ c.in_default.is) c.put_u8.ensures; near_name_by_put = λ near. known (name-missing _ _ c.in_default.is) c.put_u8.ensures }
 
 pub returns : goal.returns
-returns c = let x = let all = c.in-Value.is in
-    let n = pattern c.in-Value.x _ (record { sfits = c.known_told-1.given.0.1 }) c.unsigned32.ensures in
-    let e = c.put_name_in.ensures in (known (in-by _ _ _ x n) e.0, λ near. known (name-by _ _ x n) (e.1 near)) in record { emits = all.0; near_name_by_put = all.1 }
+returns c =
+    let x = c.in-Value.is in
+    let n = pattern c.in-Value.x _ (record { sfits = c.in-Value.known_told-1-own.given.0.1 }) c.unsigned32.ensures in
+    let e = c.put_name_in.ensures in
+    record { emits = known (in-by _ _ _ x n) e.emits; near_name_by_put = λ near. known (name-by _ _ x n) (e.near_name_put near) }

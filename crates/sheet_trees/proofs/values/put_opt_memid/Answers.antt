@@ -7,4 +7,4 @@ pub returns-in_default : goal.returns-in_default
 returns-in_default c = known (memid-missing c.in_default.is) c.put_u8.ensures
 
 pub returns : goal.returns
-returns c = known (memid-is c.in-Value.is (pattern c.in-Value.x _ (record { sfits = c.known_told-1.given.0.1 }) c.unsigned32.ensures)) c.put_le.ensures
+returns c = known (memid-is c.in-Value.is (pattern c.in-Value.x _ (record { sfits = c.in-Value.known_told-1-own.given.0.1 }) c.unsigned32.ensures)) c.put_le.ensures

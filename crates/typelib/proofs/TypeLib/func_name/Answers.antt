@@ -17,4 +17,4 @@ pub returns-in_default : goal.returns-in_default
 returns-in_default c = sym (ap refused (nine-map (to_z w32) _ (nine-member _ c.args.s.now c.args.ti c.args.index c.if-s-gt-LIMIT.false) _ (tells told_i32 c.in_default.is c.func_name_offset.ensures))) ∙ bind-refused _ _ _ (tells told_i32 c.in_default.is c.func_name_offset.ensures)
 
 pub returns : goal.returns
-returns c = bind-value _ _ _ _ (tells told_i32 c.in-Value.is c.func_name_offset.ensures) (c.name.ensures ∙ ap (λ (z : ℤ). name_text c.args.s.now c.args.self (of_z w32 z)) (to_z-of_z w32 c.in-Value.offset (record { sfits = c.known_told-1.given.0.1 })))
+returns c = bind-value _ _ _ _ (tells told_i32 c.in-Value.is c.func_name_offset.ensures) (c.name.ensures ∙ ap (λ (z : ℤ). name_text c.args.s.now c.args.self (of_z w32 z)) (to_z-of_z w32 c.in-Value.offset (record { sfits = c.in-Value.known_told-1-own.given.0.1 })))

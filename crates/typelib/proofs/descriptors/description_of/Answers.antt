@@ -31,4 +31,4 @@ unfolding description_of
 returns-in-29 c = description-case 29 c.args.s.now (library c.args.lib.now) c.args.code c.args.second _ c.in-29.is (ap (λ z. value (UserDefined z)) (to_z-of_z w32 _ (record { sfits = c.signed32-in-29.type_inv }) ∙ c.signed32-in-29.ensures))
 
 pub returns-in_default : goal.returns-in_default
-returns-in_default c = description-base _ _ _ _ c.in_default.rest.0.0.0.1 c.in_default.rest.0.0.1 c.in_default.rest.0.1 c.in_default.rest.1
+returns-in_default c = description-base _ _ _ _ c.in_default.in_default-own.rest.0.0.0.1 c.in_default.in_default-own.rest.0.0.1 c.in_default.in_default-own.rest.0.1 c.in_default.in_default-own.rest.1

@@ -1,0 +1,7 @@
+use Rattle.replies.specs.CallLaws.{laid_as}
+use Rattle.rows.specs.Values.{import_numbers, step}
+use mathlib.Core.Path.{◌∙◌, ap}
+use Rattle.msft_typelib.proofs.iterators.msft_import_step.Goals as goal
+
+pub returns : goal.returns
+returns c = laid_as _ c.lay.ensures (c.of_import_step.ensures ∙ ap (step import_numbers) c.step.ensures)

@@ -1,0 +1,7 @@
+use Rattle.replies.specs.CallLaws.{laid_as}
+use Rattle.rows.specs.Values.{step, var_numbers}
+use mathlib.Core.Path.{◌∙◌, ap}
+use Rattle.msft_typelib.proofs.iterators.msft_var_step.Goals as goal
+
+pub returns : goal.returns
+returns c = laid_as _ c.lay.ensures (c.of_var_step.ensures ∙ ap (step var_numbers) c.step.ensures)

@@ -1,0 +1,10 @@
+use Rattle.replies.specs.CallLaws.{laid-after, library-is, number_is}
+use Rattle.rows.specs.Values.{place}
+use Rattle.records.specs.Answer.{map}
+use mathlib.Core.Path.{◌∙◌, ap}
+use mir.Syntax.{w32}
+use mir.ValLaws.{to_z-of_z}
+use Rattle.msft_typelib.proofs.tables.msft_name_bytes.Goals as goal
+
+pub returns : goal.returns
+returns c = let h = rw (to_z-of_z w32 c.args.offset c.ranges.offset) at c.name_bytes.ensures in rw (library-is c.args.s.now c.parse-p.result c.parse-p.ensures, number_is c.args.s.now c.parse-p.result c.parse-p.ensures) (laid-after _ _ c.lay_behind.ensures (c.of_place.ensures ∙ ap (map place) (h)))
