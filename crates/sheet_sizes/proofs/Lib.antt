@@ -7,4 +7,3 @@ mod ChainLaws
 mod BaseLaws
 mod TypeLaws
 mod CallLaws
-mod KnownLaws

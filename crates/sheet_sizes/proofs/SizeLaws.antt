@@ -8,7 +8,7 @@ use Rattle.util.specs.Read.{le, read, or_zero}
 use Rattle.records.specs.declared.answer.Place.{Place}
 use Rattle.records.specs.declared.answer.PlaceAnswer.{PlaceAnswer}
 use Rattle.records.specs.declared.answer.PlaceAnswer.TheVariants as place
-use Rattle.records.specs.Answer.{Answer, value, refused}
+use Rattle.records.specs.Answer.{value}
 use Rattle.records.specs.Record.{part_of}
 use Rattle.records.specs.Told.{told_place}
 use Rattle.typelib.specs.declared.TypeLib.{TypeLib}
@@ -23,12 +23,11 @@ use Rattle.describe.specs.Answers.{IfValue, told, anything, answers-bind, answer
 use Rattle.describe.specs.FitValues.{part_length}
 use Rattle.describe.specs.References.{guid_of}
 use Rattle.describe.specs.Members.{name_of}
-use Rattle.emit.specs.Emit.{Put, put, advance, Emitted, counted_part, ◌▸◌}
+use Rattle.emit.specs.Emit.{Put, put, advance, Emitted, counted_part}
 use Rattle.emit.specs.Laws.{known, join}
 use Rattle.sheet_members.specs.Words.{function_words}
 use Rattle.sheet_bases.specs.Types.{head_bytes, names_bytes}
 use Rattle.sheet_bases.proofs.TypeLaws.{names-is}
-use Rattle.sheet_trees.specs.Parts.{internal_bytes}
 use Rattle.sheet_trees.proofs.PartLaws.{part-some, part_none, counted-some, guid-is, name-is}
 use Rattle.sheet_sizes.specs.Counts.{Measured}
 use Rattle.sheet_sizes.specs.Counted.{header_bytes}
@@ -105,18 +104,3 @@ module _ (s : List ℕ) (lib : TypeLib) where
       let low : Bytes = le_bytes 4 (or_zero (read 4 s (0 + 12))) in
       let high : Bytes = le_bytes 4 (or_zero (read 4 s (0 + 24))) in
       rw (e, f) at (known (ap value (append_assoc low high _)) (join (ahead-measured _ m (low ++ high) (longer low high (length-le_bytes 4 _) (length-le_bytes 4 _))) (join a b)))
-
--- ---- references
-
-pub internal-length : (bit index : ℕ) → length (internal_bytes bit index) ≡ 4
-unfolding internal_bytes
-internal-length bit index = simp (length-append, length-le_bytes)
-
--- three parts as one, and what stands behind them
-pub join-three : {t u v : Put} (a b c : Bytes) {y : Answer Bytes} → Emitted (value (a ++ (b ++ c))) t [] u [] → Emitted y u [] v []
-    → Emitted (value a ▸ (value b ▸ (value c ▸ y))) t [] v []
-join-three a b c {y} h k = known (by y) (join h k)
-  where
-    by : (y : Answer Bytes) → value (a ++ (b ++ c)) ▸ y ≡ value a ▸ (value b ▸ (value c ▸ y))
-    by (value ys) = ap value (append_assoc a (b ++ c) ys ∙ ap (λ (bs : Bytes). a ++ bs) (append_assoc b c ys))
-    by (refused n) = refl

@@ -1,7 +1,7 @@
 -- A tree's figures are those of its descriptions, one behind the other. Assumes nothing.
 use mathlib.Core.Path.{◌≡◌, refl, sym, ap, ap₂, ◌∙◌}
 use mathlib.Core.Option.{Option, some, none}
-use mathlib.Core.List.{List, [], ◌∷◌, ◌++◌}
+use mathlib.Core.List.{List, [], ◌∷◌}
 use Prim.Native.Nat.{ℕ, zero, suc, ◌+◌, ◌*◌, ◌-◌, ◌/◌, ◌%◌, ◌^◌, ◌≤◌, ◌<◌}
 use native.Mathlib.Omega.{arith}
 use lib.ListN.{length, length-append}
@@ -16,34 +16,34 @@ use Rattle.records.specs.Record.{limit, bits_of}
 use Rattle.typelib.specs.TableLaws.{lent-long, lent_fits}
 use Rattle.typelib.specs.DescriptorLaws.{field-base}
 use Rattle.records.specs.declared.answer.Place.{Place}
-use Rattle.util.specs.Read.{cond-elim, or_zero, read}
-use lib.Dec.{leb}
-use borrow.Author.Tests.{leb-true, leb-false}
+use Rattle.util.specs.Read.{cond-elim}
+use lib.Dec.{eqb}
+use borrow.Author.Tests.{ne_eqb}
 use Rattle.typelib.specs.declared.TypeLib.{TypeLib}
 use Rattle.typelib.specs.Header.{type_count}
 use Rattle.typelib.specs.Tables.{lent}
-use Rattle.typelib.specs.Descriptors.{type_description}
+use Rattle.typelib.specs.Descriptors.{array_desc_at, description_of, type_description}
 use Rattle.description.specs.Format.{encode, le_bytes, length-le_bytes}
-use Rattle.description.specs.Description.{Dimension, Tree}
+use Rattle.description.specs.Description.{Tree}
 use Rattle.description.specs.Description.Tree.{pointer, safe_array, c_array}
 use Rattle.description.specs.Figures.{Figures, tree_references}
-use Rattle.description.specs.Sheet.{dimension, edition-one, level, nested, tree}
+use Rattle.description.specs.Sheet.{edition-one, level, nested, tree}
 use Rattle.describe.specs.Values.{field_of}
-use Rattle.describe.specs.Trees.{dimensions_at, dimensions_of, tree_from, nested_of, tree_of}
+use Rattle.describe.specs.Trees.{dimensions_of, tree_from, nested_of, tree_of}
 use Rattle.sheet_trees.proofs.TreeLaws.{array-tree}
-use Rattle.emit.specs.Emit.{Put, past, advance, moved}
+use Rattle.emit.specs.Emit.{Put, At, past, put, advance, moved}
 use Rattle.emit.specs.Laws.{advance-none, put-at, put_refused, place_is}
+use Rattle.sheet_trees.specs.declared.trees.Inner.{Inner}
 use Rattle.sheet_trees.specs.declared.trees.Level.{Level}
 use Rattle.sheet_trees.specs.Emitted.{user_bytes}
-use Rattle.sheet_trees.specs.Parts.{array_bytes, array_of, dimensions_bytes, head_bytes, inner_of, told_inner}
-use Rattle.sheet_sizes.specs.declared.Ends.{Ends}
-use Rattle.sheet_sizes.specs.Counts.{Measured, figures, ◌⊕◌, Counts, So, Stopped, counted, counts, of, with, ends, Ending}
+use Rattle.sheet_trees.specs.Parts.{array_bytes, head_bytes, inner_of, told_inner, Levelled}
+use Rattle.sheet_sizes.specs.Counts.{Measured, figures, ◌⊕◌, ends, Ending}
 use Rattle.sheet_sizes.proofs.CountLaws.{ahead-measured, known-e, then-e, bytes-e, references-e, refusing-e}
 use Rattle.sheet_sizes.specs.Counts.{none as nil}
 use Rattle.sheet_sizes.specs.Counted.{nested_figures, tree_figures, nested_counted, tree_counted}
-use Rattle.sheet_sizes.specs.Trees.{own_references, LevelCounted, NestedCounted, behind_of}
+use Rattle.sheet_sizes.specs.Trees.{own_references, LevelCounted, NestedCounted, Under}
 
-pub advance-most : (to n : ℕ) → to ≤ past → advance to n ≤ past
+advance-most : (to n : ℕ) → to ≤ past → advance to n ≤ past
 unfolding advance
 advance-most to n h = omega arith
 
@@ -150,22 +150,14 @@ module _ (s : List ℕ) (lib : TypeLib) where
         by (value (type.UserDefined x)) h = absurd (let z : ◌≡◌ {A = ℕ} 0 1 = cc in omega arith)
         by (refused n) h = refl
 
-  own-few : (a : Answer TypeDescription) → own_references a ≤ 1
-  own-few (value (type.Base vt)) = omega arith
-  own-few (value (type.Pointer x)) = omega arith
-  own-few (value (type.SafeArray x)) = omega arith
-  own-few (value (type.CArray d)) = omega arith
-  own-few (value (type.UserDefined x)) = omega arith
-  own-few (refused n) = omega arith
-
   -- where a description ends, and how many references it is
   module _ (to : ℕ) (few : to ≤ past) where
-    own-counted : (a : Answer TypeDescription) (r n : ℕ) → r ≡ advance to (length (head_bytes s lib a)) + 2 ^ 25 * own_references a
-        → Ending (value (own a)) (ends to n) (ends (r % 2 ^ 25) (advance n (r / 2 ^ 25)))
+    own-counted : (a : Answer TypeDescription) (r n : ℕ) → r ≡ advance to (length (head_bytes s lib a)) + 2 ^ 32 * own_references a
+        → Ending (value (own a)) (ends to n) (ends (r % 2 ^ 32) (advance n (r / 2 ^ 32)))
     own-counted a r n e =
         let m : advance to (length (head_bytes s lib a)) ≤ past = advance-most to (length (head_bytes s lib a)) few in
-        let p : r % 2 ^ 25 ≡ advance to (length (head_bytes s lib a)) = omega (arith, e, m) in
-        let q : r / 2 ^ 25 ≡ own_references a = omega (arith, e, m) in
+        let p : r % 2 ^ 32 ≡ advance to (length (head_bytes s lib a)) = omega (arith, e, m) in
+        let q : r / 2 ^ 32 ≡ own_references a = omega (arith, e, m) in
         rw (p, q) (references-e to (advance to (length (head_bytes s lib a))) n (own_references a) (ahead-measured to refl (head_bytes s lib a) refl))
 
     module _ (levels field : ℕ) (some_left : levels ≡ 0 → ⊥) {r : Level} (h : LevelCounted s lib (lent s (type_description s lib field)) to r) where
@@ -178,10 +170,7 @@ module _ (s : List ℕ) (lib : TypeLib) where
       leaf-counted g =
           let e : value (own a) ≡ nested_counted s lib levels field =
           closes _ _ ∙ ap (λ (i : Option ℕ). value (own a) ⊕ rest (levels - 1) (nested_of s lib (levels - 1)) i) (sym g ∙ h.under) ∙ sym (step levels field some_left) in
-          record {
-            is = λ n. known-e e (own-counted a r.to n h.ends);
-            few = omega (arith, h.ends, own-few a, advance-most to (length (head_bytes s lib a)) few);
-          }
+          record { is = λ n. known-e e (own-counted a r.to n h.ends) }
 
       -- a tree is under it
       pub branch-counted : {below q : ℕ} → told_inner r.inner ≡ some below → NestedCounted s lib (levels - 1) below r.to q → NestedCounted s lib levels field to q
@@ -189,11 +178,11 @@ module _ (s : List ℕ) (lib : TypeLib) where
       branch-counted {below} {q} g k =
           let m : advance to (length (head_bytes s lib a)) ≤ past = advance-most to (length (head_bytes s lib a)) few in
           let z : own_references a ≡ 0 = no-reference a (sym h.under ∙ g) in
-          let e : r.to % 2 ^ 25 ≡ r.to = omega (arith, h.ends, z, m) in
-          let f : r.to / 2 ^ 25 ≡ 0 = omega (arith, h.ends, z, m) in
+          let e : r.to % 2 ^ 32 ≡ r.to = omega (arith, h.ends, z, m) in
+          let f : r.to / 2 ^ 32 ≡ 0 = omega (arith, h.ends, z, m) in
           let w : value (own a) ⊕ nested_counted s lib (levels - 1) below ≡ nested_counted s lib levels field =
           ap (λ (i : Option ℕ). value (own a) ⊕ rest (levels - 1) (nested_of s lib (levels - 1)) i) (sym g ∙ h.under) ∙ sym (step levels field some_left) in
-          record { is = λ n. known-e w (then-e (rw (e, f, advance-none n) at (own-counted a r.to n h.ends)) (k.is n)); few = k.few }
+          record { is = λ n. known-e w (then-e (rw (e, f, advance-none n) at (own-counted a r.to n h.ends)) (k.is n)) }
 
     -- where a tree is under it, it ends at a place
     pub branch-place : (field : ℕ) {below : ℕ} {r : Level} → LevelCounted s lib (lent s (type_description s lib field)) to r → told_inner r.inner ≡ some below → r.to ≤ past
@@ -203,95 +192,73 @@ module _ (s : List ℕ) (lib : TypeLib) where
         let z : own_references a ≡ 0 = no-reference a (sym h.under ∙ g) in
         omega (arith, h.ends, z, m)
 
+  -- ---- pointers and safe arrays
+
+  -- one of them
+  pub under_first : (field second : ℕ) (a : Answer TypeDescription) (i : Inner) → a ≡ lent s (type_description s lib field) → inner_of s a ≡ some second
+      → length (head_bytes s lib a) ≡ 1 → own_references a ≡ 0 → told_inner i ≡ some second → Under s lib 1 field i
+  unfolding nested_counted
+  under_first field second a i e f g h k =
+      record {
+        is = λ below n t.
+            let u : some second ≡ some below = sym k ∙ t in
+            let v : second ≡ below = cc in
+            let m : 1 + n - 1 ≡ n = omega arith in
+            step (1 + n) field (λ z. omega (arith, z))
+            ∙ ap (λ (x : Answer TypeDescription). value (own x) ⊕ rest (1 + n - 1) (nested_of s lib (1 + n - 1)) (inner_of s x)) (sym e)
+            ∙ rw (f, g, h, m, v);
+      }
+
+  module _ (field : ℕ) {second : ℕ} (fits : Fits w32 second) {i : Inner} where
+    pub under-pointer : value (type.Pointer (to_z w32 second)) ≡ lent s (type_description s lib field) → told_inner i ≡ some second → Under s lib 1 field i
+    unfolding head_bytes inner_of
+    under-pointer e h = under_first field second (value (type.Pointer (to_z w32 second))) i e (ap some (of_z-to_z w32 second fits)) refl refl h
+
+    pub under-safe-array : value (type.SafeArray (to_z w32 second)) ≡ lent s (type_description s lib field) → told_inner i ≡ some second → Under s lib 1 field i
+    unfolding head_bytes inner_of
+    under-safe-array e h = under_first field second (value (type.SafeArray (to_z w32 second))) i e (ap some (of_z-to_z w32 second fits)) refl refl h
+
+  plus-plus : (k j : ℕ) (x : Answer Figures) → value (figures k 0 0 0 0) ⊕ (value (figures j 0 0 0 0) ⊕ x) ≡ value (figures (k + j) 0 0 0 0) ⊕ x
+  plus-plus k j (value x) =
+      let a : k + (j + x.length) ≡ k + j + x.length = omega arith in
+      let b : 0 + (0 + x.functions) ≡ 0 + x.functions = omega arith in
+      let c : 0 + (0 + x.parameters) ≡ 0 + x.parameters = omega arith in
+      let d : 0 + (0 + x.variables) ≡ 0 + x.variables = omega arith in
+      let e : 0 + (0 + x.references) ≡ 0 + x.references = omega arith in
+      rw (a, b, c, d, e)
+  plus-plus k j (refused n) = refl
+
+  -- one of them to another
+  pub under-second : (field below : ℕ) {i j : Inner} → Under s lib 1 field i → told_inner i ≡ some below → Under s lib 1 below j → Under s lib 2 field j
+  under-second field below {i} {j} u e v =
+      record {
+        is = λ x n t.
+            let m : 2 + n ≡ 1 + (1 + n) = omega arith in
+            ap (λ (l : ℕ). nested_counted s lib l field) m
+            ∙ u.is below (1 + n) e
+            ∙ ap (λ (y : Answer Figures). value (figures 1 0 0 0 0) ⊕ y) (v.is x n t)
+            ∙ plus-plus 1 1 (nested_counted s lib n x);
+      }
+
+  -- nothing is said
+  pub under_none : (k field : ℕ) {i : Inner} → told_inner i ≡ none → Under s lib k field i
+  under_none k field h = record { is = λ below n t. absurd (let y : none ≡ some below = sym h ∙ t in let z : ◌≡◌ {A = ℕ} 0 1 = cc in omega arith) }
+
+  -- two of them, and the tree under them
+  pub two-counted : (to levels field below : ℕ) {r q : ℕ} {i : Inner} → 2 ≤ levels → Under s lib 2 field i → told_inner i ≡ some below → r ≡ advance to 2
+      → NestedCounted s lib (levels - 2) below r q → NestedCounted s lib levels field to q
+  two-counted to levels field below {r} {q} h u e f k =
+      let m : levels ≡ 2 + (levels - 2) = omega arith in
+      let w : value (figures 2 0 0 0 0) ⊕ nested_counted s lib (levels - 2) below ≡ nested_counted s lib levels field =
+      sym (u.is below (levels - 2) e) ∙ ap (λ (l : ℕ). nested_counted s lib l field) (sym m) in
+      record { is = λ n. known-e w (then-e (bytes-e to r n (ahead-measured to f (0 ∷ 0 ∷ []) refl)) (k.is n)) }
+
   -- refusal 11
   pub deep-counted : (to levels field : ℕ) → to ≤ past → levels ≡ 0 → NestedCounted s lib levels field to 16777229
   deep-counted to levels field few e =
-      record {
-        is = λ n. known-e (too-deep levels field e) (refusing-e to 16777229 n _ {o = []} (record { moves = rw (put-at to few) (put_refused 16777229 (omega arith)); lays = rw (put-at to few) tt; spares = refl; keeps = refl }));
-        few = omega arith;
-      }
-
--- ---- what was counted from 0 on, behind another place
-
-pub again : (to n : ℕ) → advance to (advance 0 n) ≡ advance to n
-unfolding advance
-again to n = omega arith
-
-from_zero : (n : ℕ) → n ≤ past → n ≡ advance 0 n
-unfolding advance
-from_zero n h = omega arith
-
-abbrev so_far : Counts → Figures
-so_far (So a) = a
-so_far (Stopped m) = nil
-
-abbrev is_stopped : Counts → ℕ
-is_stopped (So a) = 0
-is_stopped (Stopped m) = 1
-
-module _ (to n f p v r m : ℕ) (few : to ≤ past) where
-  placed : (x : Answer Figures) → n ≤ past → counts n f p v m ≡ counted (counts 0 f p v r) x → counts (advance to n) f p v m ≡ counted (counts to f p v r) x
-  unfolding counts
-  placed (value y) le e =
-      let q : So (figures n f p v m) ≡ counted (So (figures 0 f p v r)) (value y) = rw (put-at n le, put-at 0 (omega arith)) at e in
-      let a : advance to n ≡ advance to y.length = ap (advance to) (ap (λ (c : Counts). (so_far c).length) q) ∙ again to y.length in
-      let b : f ≡ advance f y.functions = ap (λ (c : Counts). (so_far c).functions) q in
-      let c : p ≡ advance p y.parameters = ap (λ (c : Counts). (so_far c).parameters) q in
-      let d : v ≡ advance v y.variables = ap (λ (c : Counts). (so_far c).variables) q in
-      let g : m ≡ advance r y.references = ap (λ (c : Counts). (so_far c).references) q in
-      rw (put-at (advance to n) (advance-most to n few), put-at to few) cc
-  placed (refused k) le e =
-      let q : So (figures n f p v m) ≡ Stopped k = rw (put-at n le, put-at 0 (omega arith)) at e in
-      absurd (let z : ◌≡◌ {A = ℕ} 0 1 = ap is_stopped q in omega arith)
-
-  stopped : (x : Answer Figures) (i : ℕ) → past < n → counts n f p v m ≡ counted (counts 0 f p v r) x → counts n f p v i ≡ counted (counts to f p v r) x
-  unfolding counts
-  stopped (value y) i lt e =
-      let q : Stopped ((n - suc past) % 256) ≡ counted (So (figures 0 f p v r)) (value y) = rw (put_refused n lt, put-at 0 (omega arith)) at e in
-      absurd (let z : ◌≡◌ {A = ℕ} 1 0 = ap is_stopped q in omega arith)
-  stopped (refused k) i lt e =
-      let q : Stopped ((n - suc past) % 256) ≡ Stopped k = rw (put_refused n lt, put-at 0 (omega arith)) at e in
-      rw (put_refused n lt, put-at to few) q
-
-pub behind-e : (x : Answer Figures) (from : Ends) (n k : ℕ) → from.to ≤ past → ((m : ℕ) → Ending x (ends 0 m) (ends n (advance m k))) → Ending x from (behind_of from n k)
-unfolding behind_of
-behind-e x from n k few h =
-    record {
-      is = λ c.
-          let e : counts n c.functions c.parameters c.variables (advance from.references k)
-          ≡ counted (counts 0 c.functions c.parameters c.variables from.references) x = ((h from.references).is c).is in
-          record {
-            is =
-                cond-elim (λ (r : Ends). of (with c r) ≡ counted (of (with c from)) x) (leb n past) _ _
-                (λ l. placed from.to n _ _ _ _ _ few x (leb-true n past l) e)
-                (λ l. stopped from.to n _ _ _ _ _ few x _ (leb-false n past l) e);
-          };
-    }
-
--- bytes alone
-pub bytes-behind : (from : Ends) (bs : List ℕ) → from.to ≤ past → length bs ≤ past → Ending (value (figures (length bs) 0 0 0 0)) from (behind_of from (length bs) 0)
-bytes-behind from bs few h =
-    behind-e _ from (length bs) 0 few (λ m. rw (advance-none m) (bytes-e 0 (length bs) m (ahead-measured 0 (from_zero (length bs) h) bs refl)))
+      record { is = λ n. known-e (too-deep levels field e) (refusing-e to 16777229 n _ {o = []} (record { moves = rw (put-at to few) (put_refused 16777229 (omega arith)); lays = rw (put-at to few) tt; spares = refl; keeps = refl })) }
 
 -- ---- one description, by its case
-
-dimension-bytes : (d : Dimension) → length (encode dimension d) ≡ 8
-unfolding dimension
-dimension-bytes d =
-    length-append (le_bytes 4 d.count) (le_bytes 4 d.lower_bound) ∙ omega (arith, length-le_bytes 4 d.count, length-le_bytes 4 d.lower_bound)
-
-one-dimension-more : (d : Dimension) (bs : List ℕ) (n : ℕ) → length bs ≡ 8 * n → length (encode dimension d ++ bs) ≡ 8 * suc n
-one-dimension-more d bs n h = length-append (encode dimension d) bs ∙ omega (arith, dimension-bytes d, h)
-
-dimensions-bytes : (s : List ℕ) (at n : ℕ) → length (dimensions_bytes s at n) ≡ 8 * n
-unfolding dimensions_bytes dimensions_at
-dimensions-bytes s at zero = refl
-dimensions-bytes s at (suc n) = one-dimension-more _ _ n (dimensions-bytes s (at + 8) n)
-
-array-bytes : (s : List ℕ) (at : ℕ) {n : ℕ} → n ≡ or_zero (read 2 s (at + 4)) → length (array_bytes s at) ≡ 3 + 8 * n
-unfolding array_bytes
-array-bytes s at {n} e =
-    rw (← e) (ap suc (length-append (le_bytes 2 n) (dimensions_bytes s (at + 8) n)) ∙ omega (arith, length-le_bytes 2 n, dimensions-bytes s (at + 8) n))
 
 module _ (s : List ℕ) (lib : TypeLib) (to : ℕ) {r : Level} where
   pub level-as : {a b : Answer TypeDescription} → a ≡ b → LevelCounted s lib a to r → LevelCounted s lib b to r
@@ -320,16 +287,30 @@ module _ (s : List ℕ) (lib : TypeLib) (to : ℕ) {r : Level} where
     unfolding head_bytes inner_of
     level-safe-array e f = plain (value (type.SafeArray (to_z w32 second))) refl refl e (f ∙ ap some (sym (of_z-to_z w32 second fits)))
 
-    pub level-user : {n : ℕ} → n ≡ advance to (length (user_bytes s lib second)) → r.to ≡ n + 2 ^ 25 → told_inner r.inner ≡ none → LevelCounted s lib (value (type.UserDefined (to_z w32 second))) to r
+    pub level-user : {n : ℕ} → n ≡ advance to (length (user_bytes s lib second)) → r.to ≡ n + 2 ^ 32 → told_inner r.inner ≡ none → LevelCounted s lib (value (type.UserDefined (to_z w32 second))) to r
     unfolding head_bytes inner_of
     level-user {n} e f g = record { ends = rw (of_z-to_z w32 second fits) (omega (arith, e, f)); under = g }
 
-  -- a C array of n dimensions
-  pub level-array : (p : Place) {n : ℕ} → n ≡ or_zero (read 2 s (p.at + 4)) → r.to ≡ advance to (3 + 8 * n) → told_inner r.inner ≡ some (or_zero (read 4 s (p.at + 0)))
-      → LevelCounted s lib (array_of (value p)) to r
-  unfolding head_bytes inner_of
-  level-array p {n} e f g = plain (array_of (value p)) (array-bytes s p.at e) refl f g
+  -- by its emitter
+  pub level-put : (a : Answer TypeDescription) → to ≤ past → own_references a ≡ 0 → Levelled s lib a (put to) [] (put r.to) [] (told_inner r.inner) → LevelCounted s lib a to r
+  level-put a few e l =
+      let m : put r.to ≡ At (advance to (length (head_bytes s lib a))) = l.0.moves ∙ ap (λ (t : Put). moved t (value (head_bytes s lib a))) (put-at to few) in
+      plain a refl e (place_is r.to m) l.1
 
 -- where an emission of bytes ends that began at a place
 pub place-measured : (to r : ℕ) (bs : List ℕ) → to ≤ past → Measured (value bs) to r → r ≡ advance to (length bs)
 place-measured to r bs few h = place_is r (h.moves ∙ ap (λ (t : Put). moved t (value bs)) (put-at to few))
+
+-- a descriptor of another code is no reference
+pub no-user : (s : List ℕ) (lib : TypeLib) (code second : ℕ) → (code ≡ 29 → ⊥) → own_references (description_of s lib code second) ≡ 0
+unfolding description_of
+no-user s lib code second h =
+    let P : Answer TypeDescription → Type 0 = λ a. own_references a ≡ 0 in
+    rw (ne_eqb code 29 h)
+    (cond-elim P (eqb code 26) (value (type.Pointer (to_z w32 second))) _ (λ _. refl) (λ _.
+    cond-elim P (eqb code 27) (value (type.SafeArray (to_z w32 second))) _ (λ _. refl) (λ _.
+    cond-elim P (eqb code 28) _ (value (type.Base code)) (λ _. by (array_desc_at s lib (bits_of 0 16 second))) (λ _. refl))))
+  where
+    by : (a : Answer Place) → own_references (map (λ p. type.CArray (record { at = p.at; len = p.len })) a) ≡ 0
+    by (value p) = refl
+    by (refused n) = refl

@@ -5,7 +5,6 @@ ghost use Rattle.sheet_trees.specs.Names.{Near};
 ghost use Rattle.sheet_sizes.specs.Counted.{functions_counted, functions_from};
 ghost use Rattle.sheet_sizes.specs.Counts.{Counting};
 ghost use Rattle.sheet_sizes.specs.Functions.{FunctionCounted};
-ghost use Rattle.sheet_sizes.specs.Trees.{Known};
 ghost use Rattle.typelib.specs.Header.{library};
 
 use crate::{Count, Ends, names, parameters, trees};
@@ -19,16 +18,8 @@ use sheet_trees::names::Names;
 use typelib::Numbers;
 
 // The functions of a type: their count, and each.
-pub(crate) fn after_functions(
-    s: &[u8],
-    lib: &Numbers,
-    known: &mut [u32],
-    ti: TypeInfoEntry,
-    from: Count,
-) -> Count
-    requires { Known s.now (library lib.now) known.old }
-    ensures counting { Counting (functions_counted s.now (library lib.now) ti) from result }
-    ensures known { Known s.now (library lib.now) known.new }
+pub(crate) fn after_functions(s: &[u8], lib: &Numbers, ti: TypeInfoEntry, from: Count) -> Count
+    ensures { Counting (functions_counted s.now (library lib.now) ti) from result }
 {
     let begun = crate::moved(from, crate::ahead(from.to, 2));
     match iterators::funcs(&*s, ti) {
@@ -37,25 +28,16 @@ pub(crate) fn after_functions(
             if cursor.remaining == 0 {
                 return begun;
             }
-            after_each(&*s, lib, known, ti, cursor, begun)
+            after_each(&*s, lib, ti, cursor, begun)
         }
         FuncsAnswer::Refused(_) => begun,
     }
 }
 
 // Each function that the cursor yields. (A refusal ends it at once: it stays.)
-fn after_each(
-    s: &[u8],
-    lib: &Numbers,
-    known: &mut [u32],
-    ti: TypeInfoEntry,
-    cursor: FuncCursor,
-    from: Count,
-) -> Count
-    requires yielded_value { cursor.yielded ≡ 0 }
-    requires known { Known s.now (library lib.now) known.old }
-    ensures counting { Counting (functions_from s.now (library lib.now) ti cursor) from result }
-    ensures known_2 { Known s.now (library lib.now) known.new }
+fn after_each(s: &[u8], lib: &Numbers, ti: TypeInfoEntry, cursor: FuncCursor, from: Count) -> Count
+    requires { cursor.yielded ≡ 0 }
+    ensures { Counting (functions_from s.now (library lib.now) ti cursor) from result }
 {
     let rows = words::func_rows(&*s, ti);
     let names = sheet_trees::names::names_of(&*s, lib);
@@ -71,7 +53,7 @@ fn after_each(
         let i = number as usize;
         let memid = words::word(&*s, rows.memids, i);
         let name_offset = words::word(&*s, rows.names, i);
-        t = after_function(&*s, lib, known, names, memid, name_offset, func, t);
+        t = after_function(&*s, lib, names, memid, name_offset, func, t);
         c = next;
     }
 }
@@ -80,17 +62,14 @@ fn after_each(
 fn after_function(
     s: &[u8],
     lib: &Numbers,
-    known: &mut [u32],
     names: Names,
     memid: I32Answer,
     name_offset: I32Answer,
     func: FuncRecord,
     from: Count,
 ) -> Count
-    requires near { Near s.now (library lib.now) names }
-    requires known { Known s.now (library lib.now) known.old }
-    ensures function_counted { FunctionCounted s.now (library lib.now) (told_i32 memid) (told_i32 name_offset) func from result }
-    ensures known_2 { Known s.now (library lib.now) known.new }
+    requires { Near s.now (library lib.now) names }
+    ensures { FunctionCounted s.now (library lib.now) (told_i32 memid) (told_i32 name_offset) func from result }
 {
     let t = names::after_memid(memid, from.to);
     let t = names::after_name_by(&*s, lib, names, name_offset, t);
@@ -98,7 +77,6 @@ fn after_function(
     let result = trees::after_tree(
         &*s,
         lib,
-        known,
         field,
         Ends {
             to: t,
@@ -113,5 +91,5 @@ fn after_function(
         variables: from.variables,
         references: result.references,
     };
-    parameters::after_parameters(&*s, lib, known, names, func, c)
+    parameters::after_parameters(&*s, lib, names, func, c)
 }

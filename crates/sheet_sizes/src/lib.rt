@@ -15,7 +15,6 @@ ghost use Rattle.sheet_bases.specs.Types.{names_bytes};
 ghost use Rattle.sheet_sizes.specs.Counted.{header_bytes, library_counted, type_at_counted, type_counted, types_counted};
 ghost use Rattle.sheet_sizes.specs.Counts.{Counting, CountingAll, Measured};
 ghost use Rattle.sheet_sizes.specs.Told.{told_figures};
-ghost use Rattle.sheet_sizes.specs.Trees.{Known};
 ghost use Rattle.typelib.specs.Header.{library};
 
 use records::typeinfo::TypeInfoEntry;
@@ -26,7 +25,6 @@ mod bases;
 mod functions;
 mod names;
 mod parameters;
-mod references;
 mod trees;
 mod variables;
 
@@ -35,18 +33,6 @@ pub const MOST_TYPES: u32 = 65_535;
 
 // Where the contents have the length of the first type's body.
 pub const TYPE_LENGTHS: usize = 8;
-
-// What is known of trees and of references to other libraries is kept in memory of the call's own, which is cleared for each call: for a
-// library of at most so many types, of the first type fields; for one of more, of all type fields and import records that a library of
-// 64 KB can name, so that none of them is read twice.
-const FEW_TYPES: u32 = 256;
-
-const FEW: usize = 1_024;
-
-// The ends of trees come first, by their type fields; behind them stand the lengths of references, by a quarter of their hreftypes.
-pub(crate) const FIELDS: usize = 65_536;
-
-const MANY: usize = 81_920;
 
 // The sheet's length in bytes, and what it reads. A figure above 16,777,216 is given as 16,777,217.
 #[derive(Clone, Copy)]
@@ -93,16 +79,16 @@ pub fn figures(s: &[u8]) -> FiguresAnswer
     if MOST_TYPES < lib.count() {
         return FiguresAnswer::Refused(13);
     }
-    let whole = count_sheet(&*s, &lib.numbers);
-    if emit::PAST < whole.to {
-        return FiguresAnswer::Refused(((whole.to - emit::PAST - 1) % 256) as u8);
+    let c = count_sheet(&*s, &lib.numbers);
+    if emit::PAST < c.to {
+        return FiguresAnswer::Refused(((c.to - emit::PAST - 1) % 256) as u8);
     }
     FiguresAnswer::Value(SheetFigures {
-        length: whole.to as u32,
-        functions: whole.functions as u32,
-        parameters: whole.parameters as u32,
-        variables: whole.variables as u32,
-        references: whole.references as u32,
+        length: c.to as u32,
+        functions: c.functions as u32,
+        parameters: c.parameters as u32,
+        variables: c.variables as u32,
+        references: c.references as u32,
     })
 }
 
@@ -111,51 +97,11 @@ pub fn figures(s: &[u8]) -> FiguresAnswer
 pub fn count_sheet(s: &[u8], lib: &Numbers) -> Count
     ensures { CountingAll (library_counted s.now (library lib.now)) result }
 {
-    if tables::count(lib) <= FEW_TYPES {
-        return count_few(&*s, lib);
-    }
-    count_many(&*s, lib)
-}
-
-// (An array is lent as an array first: the prover writes out the elements of one that is lent as a slice where it is made.)
-fn count_few(s: &[u8], lib: &Numbers) -> Count
-    ensures { CountingAll (library_counted s.now (library lib.now)) result }
-{
-    let mut known = [0u32; FEW];
-    count_in_few(&*s, lib, &mut known)
-}
-
-fn count_in_few(s: &[u8], lib: &Numbers, known: &mut [u32; FEW]) -> Count
-    requires { Known s.now (library lib.now) known.old }
-    ensures { CountingAll (library_counted s.now (library lib.now)) result }
-{
-    count_with(&*s, lib, known)
-}
-
-fn count_many(s: &[u8], lib: &Numbers) -> Count
-    ensures { CountingAll (library_counted s.now (library lib.now)) result }
-{
-    let mut known = [0u32; MANY];
-    count_in_many(&*s, lib, &mut known)
-}
-
-fn count_in_many(s: &[u8], lib: &Numbers, known: &mut [u32; MANY]) -> Count
-    requires { Known s.now (library lib.now) known.old }
-    ensures { CountingAll (library_counted s.now (library lib.now)) result }
-{
-    count_with(&*s, lib, known)
-}
-
-fn count_with(s: &[u8], lib: &Numbers, known: &mut [u32]) -> Count
-    requires { Known s.now (library lib.now) known.old }
-    ensures { CountingAll (library_counted s.now (library lib.now)) result }
-{
     let start = ahead(0, TYPE_LENGTHS + 4 * (tables::count(lib) as usize));
     let to = after_header(&*s, lib, start);
     after_types(
         &*s,
         lib,
-        known,
         Count {
             to,
             functions: 0,
@@ -177,10 +123,8 @@ fn after_header(s: &[u8], lib: &Numbers, to: usize) -> usize
 }
 
 // All types of the library. (A refusal ends it at once: it stays.)
-fn after_types(s: &[u8], lib: &Numbers, known: &mut [u32], from: Count) -> Count
-    requires { Known s.now (library lib.now) known.old }
-    ensures counting { Counting (types_counted s.now (library lib.now)) from result }
-    ensures known { Known s.now (library lib.now) known.new }
+fn after_types(s: &[u8], lib: &Numbers, from: Count) -> Count
+    ensures { Counting (types_counted s.now (library lib.now)) from result }
 {
     let count = tables::count(lib) as usize;
     let mut c = from;
@@ -189,35 +133,25 @@ fn after_types(s: &[u8], lib: &Numbers, known: &mut [u32], from: Count) -> Count
         if emit::PAST < c.to {
             return c;
         }
-        c = after_type_of(&*s, lib, known, TypeInfoIndex(i), c);
+        c = after_type_of(&*s, lib, TypeInfoIndex(i), c);
         i += 1;
     }
     c
 }
 
 // Type `index` of the library; 6, 7 or 8 where there is none.
-fn after_type_of(
-    s: &[u8],
-    lib: &Numbers,
-    known: &mut [u32],
-    index: TypeInfoIndex,
-    from: Count,
-) -> Count
-    requires { Known s.now (library lib.now) known.old }
-    ensures counting { Counting (type_counted s.now (library lib.now) index.0) from result }
-    ensures known { Known s.now (library lib.now) known.new }
+fn after_type_of(s: &[u8], lib: &Numbers, index: TypeInfoIndex, from: Count) -> Count
+    ensures { Counting (type_counted s.now (library lib.now) index.0) from result }
 {
     match typeinfos::typeinfo_at(lib, &*s, index) {
-        TypeInfoAnswer::Value(ti) => after_type(&*s, lib, known, ti, from),
+        TypeInfoAnswer::Value(ti) => after_type(&*s, lib, ti, from),
         TypeInfoAnswer::Refused(n) => moved(from, emit::put_refusal(from.to, n)),
     }
 }
 
 // A type.
-fn after_type(s: &[u8], lib: &Numbers, known: &mut [u32], ti: TypeInfoEntry, from: Count) -> Count
-    requires { Known s.now (library lib.now) known.old }
-    ensures counting { Counting (type_at_counted s.now (library lib.now) ti) from result }
-    ensures known { Known s.now (library lib.now) known.new }
+fn after_type(s: &[u8], lib: &Numbers, ti: TypeInfoEntry, from: Count) -> Count
+    ensures { Counting (type_at_counted s.now (library lib.now) ti) from result }
 {
     let kind = util::bits(emit::word_at(s, ti.at, 0x00), 0, 4);
     // the kind, the flags and the version
@@ -226,7 +160,6 @@ fn after_type(s: &[u8], lib: &Numbers, known: &mut [u32], ti: TypeInfoEntry, fro
     let base = bases::after_base(
         &*s,
         lib,
-        known,
         ti,
         kind,
         Ends {
@@ -234,8 +167,8 @@ fn after_type(s: &[u8], lib: &Numbers, known: &mut [u32], ti: TypeInfoEntry, fro
             references: from.references,
         },
     );
-    let c = functions::after_functions(&*s, lib, known, ti, ended(from, base));
-    variables::after_variables(&*s, lib, known, ti, c)
+    let c = functions::after_functions(&*s, lib, ti, ended(from, base));
+    variables::after_variables(&*s, lib, ti, c)
 }
 
 // The GUID, the name, and how many functions and variables are declared.

@@ -5,7 +5,6 @@ ghost use Rattle.sheet_members.specs.Room.{Room};
 ghost use Rattle.sheet_trees.specs.Names.{Near};
 ghost use Rattle.sheet_sizes.specs.Counted.{parameter_counted, parameters_counted, parameters_from};
 ghost use Rattle.sheet_sizes.specs.Counts.{Counting, Ending, Measured};
-ghost use Rattle.sheet_sizes.specs.Trees.{Known};
 ghost use Rattle.typelib.specs.Header.{library};
 
 use crate::{Count, Ends, names, trees};
@@ -20,15 +19,12 @@ use typelib::Numbers;
 pub(crate) fn after_parameters(
     s: &[u8],
     lib: &Numbers,
-    known: &mut [u32],
     names: Names,
     func: FuncRecord,
     from: Count,
 ) -> Count
-    requires near { Near s.now (library lib.now) names }
-    requires known { Known s.now (library lib.now) known.old }
-    ensures counting { Counting (parameters_counted s.now (library lib.now) func) from result }
-    ensures known_2 { Known s.now (library lib.now) known.new }
+    requires { Near s.now (library lib.now) names }
+    ensures { Counting (parameters_counted s.now (library lib.now) func) from result }
 {
     let t = crate::ahead(from.to, 2);
     match iterators::params(&*s, func) {
@@ -36,7 +32,6 @@ pub(crate) fn after_parameters(
             let each = after_each(
                 &*s,
                 lib,
-                known,
                 names,
                 func,
                 cursor,
@@ -62,7 +57,6 @@ pub(crate) fn after_parameters(
 fn after_each(
     s: &[u8],
     lib: &Numbers,
-    known: &mut [u32],
     names: Names,
     func: FuncRecord,
     cursor: ParamCursor,
@@ -70,14 +64,12 @@ fn after_each(
 ) -> Ends
     requires near { Near s.now (library lib.now) names }
     requires room { Room s.now cursor }
-    requires known { Known s.now (library lib.now) known.old }
-    ensures ending { Ending (parameters_from s.now (library lib.now) func cursor) from result }
-    ensures known_2 { Known s.now (library lib.now) known.new }
+    ensures { Ending (parameters_from s.now (library lib.now) func cursor) from result }
 {
     let mut t = from;
     let mut i: usize = 0;
     while i < cursor.remaining {
-        t = after_parameter(&*s, lib, known, names, func, i, cursor.pos + 12 * i, t);
+        t = after_parameter(&*s, lib, names, func, i, cursor.pos + 12 * i, t);
         i += 1;
     }
     t
@@ -87,21 +79,18 @@ fn after_each(
 fn after_parameter(
     s: &[u8],
     lib: &Numbers,
-    known: &mut [u32],
     names: Names,
     func: FuncRecord,
     index: usize,
     at: usize,
     from: Ends,
 ) -> Ends
-    requires near { Near s.now (library lib.now) names }
-    requires known { Known s.now (library lib.now) known.old }
-    ensures ending { Ending (parameter_counted s.now (library lib.now) func index at) from result }
-    ensures known_2 { Known s.now (library lib.now) known.new }
+    requires { Near s.now (library lib.now) names }
+    ensures { Ending (parameter_counted s.now (library lib.now) func index at) from result }
 {
     let flags = emit::word_at(s, at, 0x08);
     let field = emit::word_at(s, at, 0x00);
-    let tree = trees::after_tree(&*s, lib, known, field, from);
+    let tree = trees::after_tree(&*s, lib, field, from);
     let t = names::after_name(&*s, lib, names, emit::word_at(s, at, 0x04), tree.to);
     let to = if flags / 0x20 % 2 == 1 {
         let offset = func.default_value_offset(&*s, index);

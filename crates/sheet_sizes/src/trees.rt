@@ -5,13 +5,14 @@ ghost use Rattle.emit.specs.Emit.{advance, past};
 ghost use Rattle.sheet_trees.specs.Parts.{told_inner};
 ghost use Rattle.sheet_sizes.specs.Counted.{tree_counted};
 ghost use Rattle.sheet_sizes.specs.Counts.{Ending};
-ghost use Rattle.sheet_sizes.specs.Trees.{ArrayCounted, DescriptorCounted, FieldCounted, Known, NestedCounted, UserCounted, behind_of};
+ghost use Rattle.sheet_sizes.specs.Trees.{DescriptorCounted, FieldCounted, NestedCounted, UserCounted, Under};
 ghost use Rattle.typelib.specs.Header.{library};
 
-use crate::{Ends, references};
+use crate::Ends;
 use records::field::LIMIT;
 use sheet_trees::trees::{Inner, Level};
-use typelib::descriptors::{ArrayDescAnswer, PairAnswer};
+use sheet_trees::{references, trees};
+use typelib::descriptors::PairAnswer;
 use typelib::{Numbers, descriptors};
 use util::NEGATIVE;
 
@@ -19,70 +20,40 @@ use util::NEGATIVE;
 const LEVELS: usize = 32;
 
 // Below `after_tree` a tree's end and whether it has a reference are one number, since a struct is replied by way of memory: the place,
-// and this much more, which is above every place and refusal, behind a reference. (A tree has at most one, its last description.)
-const REFERENCE: usize = 0x200_0000;
+// and this much more behind a reference. (A tree has at most one, its last description.)
+const REFERENCE: usize = 0x1_0000_0000;
 
 // Refusal 11, as a place.
 const TOO_DEEP: usize = 16_777_229;
 
 // The tree of a type field. (Most are negative, and need nothing but their own number.)
-pub(crate) fn after_tree(s: &[u8], lib: &Numbers, known: &mut [u32], field: u32, from: Ends) -> Ends
-    requires { Known s.now (library lib.now) known.old }
-    ensures ending { Ending (tree_counted s.now (library lib.now) field) from result }
-    ensures known { Known s.now (library lib.now) known.new }
+pub(crate) fn after_tree(s: &[u8], lib: &Numbers, field: u32, from: Ends) -> Ends
+    ensures { Ending (tree_counted s.now (library lib.now) field) from result }
 {
     if emit::PAST < from.to {
         return from;
     }
     if field < NEGATIVE {
-        let end = known_tree(&*s, lib, known, field);
-        return behind(from, end % REFERENCE, end / REFERENCE);
+        let end = after_nested(&*s, lib, field, LEVELS, from.to);
+        return Ends {
+            to: end % REFERENCE,
+            references: crate::ahead(from.references, end / REFERENCE),
+        };
     }
     if LIMIT < s.len() {
-        return behind(from, 1, 0);
-    }
-    behind(from, 3, 0)
-}
-
-// Behind what was counted, a tree that ends at `end` from 0 on, or is refused there, and has so many references.
-fn behind(from: Ends, end: usize, references: usize) -> Ends
-    ensures { result ≡ behind_of from end references }
-{
-    if emit::PAST < end {
         return Ends {
-            to: end,
+            to: crate::ahead(from.to, 1),
             references: from.references,
         };
     }
     Ends {
-        to: crate::ahead(from.to, end),
-        references: crate::ahead(from.references, references),
+        to: crate::ahead(from.to, 3),
+        references: from.references,
     }
 }
 
-// The tree of a type field from 0 on. It is read once, where there is room to keep its end: members share their types. (An end is never
-// 0, which stands for one that is not known.)
-fn known_tree(s: &[u8], lib: &Numbers, known: &mut [u32], field: u32) -> usize
-    requires { Known s.now (library lib.now) known.old }
-    ensures nested_counted { NestedCounted s.now (library lib.now) 32 field 0 result }
-    ensures known { Known s.now (library lib.now) known.new }
-{
-    let i = field as usize;
-    if i < known.len() {
-        if i < crate::FIELDS {
-            let kept = known[i];
-            if kept != 0 {
-                return kept as usize;
-            }
-            let end = after_nested(&*s, lib, field, LEVELS, 0);
-            known[i] = end as u32;
-            return end;
-        }
-    }
-    after_nested(&*s, lib, field, LEVELS, 0)
-}
-
-// The tree of a type field of at most `levels` descriptions, behind `to`; refusal 11 where there are more.
+// The same, of at most `levels` descriptions; refusal 11 where there are more. (Two pointers are passed at once: a call is dear beside what
+// a description asks for.)
 fn after_nested(s: &[u8], lib: &Numbers, field: u32, levels: usize, to: usize) -> usize
     requires { to ≤ past }
     ensures { NestedCounted s.now (library lib.now) levels field to result }
@@ -90,11 +61,48 @@ fn after_nested(s: &[u8], lib: &Numbers, field: u32, levels: usize, to: usize) -
     if levels == 0 {
         return TOO_DEEP;
     }
+    if 2 <= levels {
+        let under = under_two(&*s, lib, field);
+        if let Inner::Field(below) = under {
+            return after_nested(&*s, lib, below, levels - 2, crate::ahead(to, 2));
+        }
+    }
     let level = after_level(&*s, lib, field, to);
     let inner = level.inner;
     match inner {
         Inner::Field(below) => after_nested(&*s, lib, below, levels - 1, level.to),
         Inner::Nothing => level.to,
+    }
+}
+
+// The type field under a pointer or a safe array to another.
+fn under_two(s: &[u8], lib: &Numbers, field: u32) -> Inner
+    ensures { Under s.now (library lib.now) 2 field result }
+{
+    let one = under_one(&*s, lib, field);
+    let Inner::Field(below) = one else {
+        return Inner::Nothing;
+    };
+    under_one(&*s, lib, below)
+}
+
+// The type field under a pointer or a safe array.
+fn under_one(s: &[u8], lib: &Numbers, field: u32) -> Inner
+    ensures { Under s.now (library lib.now) 1 field result }
+{
+    if LIMIT < s.len() {
+        return Inner::Nothing;
+    }
+    if NEGATIVE <= field {
+        return Inner::Nothing;
+    }
+    let PairAnswer::Value(words) = descriptors::type_desc_at(lib, &*s, field) else {
+        return Inner::Nothing;
+    };
+    match util::bits(words.first, 0, 12) {
+        26 => Inner::Field(words.second),
+        27 => Inner::Field(words.second),
+        _ => Inner::Nothing,
     }
 }
 
@@ -115,7 +123,8 @@ fn after_level(s: &[u8], lib: &Numbers, field: u32, to: usize) -> Level
     }
 }
 
-// The description that the two words of a type descriptor are.
+// The description that the two words of a type descriptor are: by its emitter, over an output with no room, unless it is a
+// pointer or a safe array, as most are.
 fn after_descriptor(s: &[u8], lib: &Numbers, first: u32, second: u32, to: usize) -> Level
     requires { to ≤ past }
     ensures { DescriptorCounted s.now (library lib.now) first second to result }
@@ -129,28 +138,14 @@ fn after_descriptor(s: &[u8], lib: &Numbers, first: u32, second: u32, to: usize)
             to: crate::ahead(to, 1),
             inner: Inner::Field(second),
         },
-        28 => after_array(&*s, lib, util::bits(second, 0, 16), to),
         29 => Level {
             to: after_user(&*s, lib, second, to) + REFERENCE,
             inner: Inner::Nothing,
         },
-        _ => leaf(to, 3),
-    }
-}
-
-// A C array, by the offset of its descriptor: its code byte, the count of its dimensions, and eight bytes for each.
-fn after_array(s: &[u8], lib: &Numbers, offset: u32, to: usize) -> Level
-    ensures { ArrayCounted s.now (library lib.now) offset to result }
-{
-    match descriptors::array_desc_at(lib, &*s, offset) {
-        ArrayDescAnswer::Value(desc) => {
-            let dimensions = emit::half_at(s, desc.at, 0x04) as usize;
-            Level {
-                to: crate::ahead(to, 3 + 8 * dimensions),
-                inner: Inner::Field(emit::word_at(s, desc.at, 0x00)),
-            }
+        _ => {
+            let mut none = [0u8; 0];
+            trees::put_descriptor(&*s, lib, first, second, &mut none, to)
         }
-        ArrayDescAnswer::Refused(_) => leaf(to, 1),
     }
 }
 
@@ -159,7 +154,8 @@ fn after_user(s: &[u8], lib: &Numbers, href: u32, to: usize) -> usize
     requires { to ≤ past }
     ensures { UserCounted s.now (library lib.now) href to result }
 {
-    references::after_reference(&*s, lib, href, crate::ahead(to, 1))
+    let mut none = [0u8; 0];
+    references::put_reference(&*s, lib, href, &mut none, crate::ahead(to, 1))
 }
 
 // A description of `n` bytes with nothing under it.

@@ -4,7 +4,6 @@ ghost use Rattle.sheet_trees.specs.Names.{Near};
 ghost use Rattle.sheet_members.specs.Emitted.{value_emitted};
 ghost use Rattle.sheet_sizes.specs.Counted.{variable_counted, variables_counted, variables_from};
 ghost use Rattle.sheet_sizes.specs.Counts.{Counting, Measured};
-ghost use Rattle.sheet_sizes.specs.Trees.{Known};
 ghost use Rattle.typelib.specs.Header.{library};
 
 use crate::{Count, Ends, names, trees};
@@ -16,37 +15,20 @@ use sheet_trees::names::Names;
 use typelib::{Numbers, typeinfos};
 
 // The variables of a type: their count, and each.
-pub(crate) fn after_variables(
-    s: &[u8],
-    lib: &Numbers,
-    known: &mut [u32],
-    ti: TypeInfoEntry,
-    from: Count,
-) -> Count
-    requires { Known s.now (library lib.now) known.old }
-    ensures counting { Counting (variables_counted s.now (library lib.now) ti) from result }
-    ensures known { Known s.now (library lib.now) known.new }
+pub(crate) fn after_variables(s: &[u8], lib: &Numbers, ti: TypeInfoEntry, from: Count) -> Count
+    ensures { Counting (variables_counted s.now (library lib.now) ti) from result }
 {
     let begun = crate::moved(from, crate::ahead(from.to, 2));
     match iterators::vars(&*s, ti) {
-        VarsAnswer::Value(cursor) => after_each(&*s, lib, known, ti, cursor, begun),
+        VarsAnswer::Value(cursor) => after_each(&*s, lib, ti, cursor, begun),
         VarsAnswer::Refused(_) => begun,
     }
 }
 
 // Each variable that the cursor yields. (A refusal ends it at once: it stays.)
-fn after_each(
-    s: &[u8],
-    lib: &Numbers,
-    known: &mut [u32],
-    ti: TypeInfoEntry,
-    cursor: VarCursor,
-    from: Count,
-) -> Count
-    requires yielded_value { cursor.yielded ≡ 0 }
-    requires known { Known s.now (library lib.now) known.old }
-    ensures counting { Counting (variables_from s.now (library lib.now) ti cursor) from result }
-    ensures known_2 { Known s.now (library lib.now) known.new }
+fn after_each(s: &[u8], lib: &Numbers, ti: TypeInfoEntry, cursor: VarCursor, from: Count) -> Count
+    requires { cursor.yielded ≡ 0 }
+    ensures { Counting (variables_from s.now (library lib.now) ti cursor) from result }
 {
     let names = sheet_trees::names::names_of(&*s, lib);
     let mut t = from;
@@ -58,7 +40,7 @@ fn after_each(
         let VarStep::Record(var, number, next) = c.step(&*s) else {
             return t;
         };
-        t = after_variable(&*s, lib, known, names, ti, number as usize, var, t);
+        t = after_variable(&*s, lib, names, ti, number as usize, var, t);
         c = next;
     }
 }
@@ -67,34 +49,32 @@ fn after_each(
 fn after_variable(
     s: &[u8],
     lib: &Numbers,
-    known: &mut [u32],
     names: Names,
     ti: TypeInfoEntry,
     index: usize,
     var: VarRecord,
     from: Count,
 ) -> Count
-    requires near { Near s.now (library lib.now) names }
-    requires known { Known s.now (library lib.now) known.old }
-    ensures counting { Counting (variable_counted s.now (library lib.now) ti index var) from result }
-    ensures known_2 { Known s.now (library lib.now) known.new }
+    requires { Near s.now (library lib.now) names }
+    ensures { Counting (variable_counted s.now (library lib.now) ti index var) from result }
 {
     let varkind = emit::half_at(s, var.at, 0x0C);
     let word = emit::word_at(s, var.at, 0x10);
     let t = names::after_memid(typeinfos::var_memid(&*s, ti, index), from.to);
-    let name = typeinfos::var_name_offset(&*s, ti, index);
-    let t = names::after_name_by(&*s, lib, names, name, t);
+    let offset = typeinfos::var_name_offset(&*s, ti, index);
+    let t = names::after_name_by(&*s, lib, names, offset, t);
+    let field = emit::word_at(s, var.at, 0x04);
     let tree = trees::after_tree(
         &*s,
         lib,
-        known,
-        emit::word_at(s, var.at, 0x04),
+        field,
         Ends {
             to: t,
             references: from.references,
         },
     );
-    let t = crate::ahead(tree.to, 6); // the word at 0x08 and the kind
+    // the word at 0x08 and the kind
+    let t = crate::ahead(tree.to, 6);
     Count {
         to: after_value(&*s, lib, varkind, word, t),
         functions: from.functions,

@@ -1,13 +1,12 @@
-use Rattle.typelib.specs.Header.{library}
-use Prim.Native.Nat.{◌-◌}
-use mathlib.Core.Path.{refl, ◌∙◌}
-use native.Mathlib.Omega.{arith}
-use Rattle.sheet_sizes.proofs.CountLaws.{left-all, left_less, left-none, known}
 use Rattle.sheet_sizes.proofs.MemberLaws.{parameters-all, parameters-one, parameters-end}
+use Rattle.sheet_sizes.proofs.CountLaws.{left-all, left_less, left-none, known}
+use native.Mathlib.Omega.{arith}
+use Prim.Native.Nat.{◌-◌}
+use Rattle.typelib.specs.Header.{library}
 use Rattle.sheet_sizes.proofs.parameters.after_each.Goals as goal
 
 pub loop-i-init : goal.loop-i-init
-loop-i-init c = (λ k. left-all, c.requires.known, refl)
+loop-i-init c = λ k. left-all
 
 pub overflow_mul-i : goal.overflow_mul-i
 overflow_mul-i c = omega (arith, c.requires.room.whole, c.requires.room.inside, c.requires.room.few)
@@ -16,7 +15,7 @@ pub overflow_add-cursor : goal.overflow_add-cursor
 overflow_add-cursor c = omega (arith, c.requires.room.whole, c.requires.room.inside, c.requires.room.few)
 
 pub after_parameter-t-requires : goal.after_parameter-t-requires
-after_parameter-t-requires c = record { near = c.requires.near; known = c.loop-i.invariant.1 }
+after_parameter-t-requires c = c.requires.near
 
 pub overflow_add-i : goal.overflow_add-i
 overflow_add-i c = omega arith
@@ -25,10 +24,7 @@ pub loop-i-smaller : goal.loop-i-smaller
 loop-i-smaller c = omega arith
 
 pub loop-i-preserved : goal.loop-i-preserved
-loop-i-preserved c = (λ k. left_less (c.loop-i.invariant.0 k) (c.after_parameter-t.ensures.ending.is k) (parameters-one _ _ _ _ _ c.requires.room c.loop-i-test.true), c.after_parameter-t.ensures.known_2, c.known-1.given ∙ c.loop-i.invariant.2)
-
-pub shape_of-known : goal.shape_of-known
-shape_of-known c = c.loop-i.invariant.2
+loop-i-preserved c = λ k. left_less (c.loop-i.invariant k) (c.after_parameter-t.ensures.is k) (parameters-one _ _ _ _ _ c.requires.room c.loop-i-test.true)
 
 pub returns : goal.returns
-returns c = record { ending = record { is = λ k. known (parameters-all c.args.s.now (library c.args.lib.now) c.args.cursor c.args.func c.requires.room) (left-none (c.loop-i.invariant.0 k) (parameters-end c.args.s.now (library c.args.lib.now) c.args.cursor c.args.func _ (omega arith))) }; known_2 = c.loop-i.invariant.1 }
+returns c = record { is = λ k. known (parameters-all c.args.s.now (library c.args.lib.now) c.args.cursor c.args.func c.requires.room) (left-none (c.loop-i.invariant k) (parameters-end c.args.s.now (library c.args.lib.now) c.args.cursor c.args.func _ (omega arith))) }

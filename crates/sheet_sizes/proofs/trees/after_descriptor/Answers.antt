@@ -1,11 +1,15 @@
-use Rattle.typelib.specs.Header.{library}
-use Rattle.sheet_trees.specs.Parts.{array_of}
-use Rattle.typelib.specs.Descriptors.{array_desc_at, description_of}
-use Rattle.typelib.specs.DescriptorLaws.{description-base, description-case}
-use mathlib.Core.Path.{refl, sym, ap, ◌∙◌}
+use Rattle.sheet_sizes.proofs.TreeLaws.{ahead-most}
+use Rattle.sheet_sizes.specs.Counts.{measured}
 use native.Mathlib.Omega.{arith}
-use Rattle.sheet_sizes.proofs.TreeLaws.{ahead-most, level-as, level-base, level-pointer, level-safe-array, level-user}
+use mathlib.Core.Path.{refl, sym, ◌∙◌}
+use Rattle.sheet_sizes.proofs.TreeLaws.{level-as, level-pointer, level-safe-array, level-user, level-put, no-user}
+use Rattle.typelib.specs.DescriptorLaws.{description-case}
+use Rattle.typelib.specs.Descriptors.{description_of}
+use Rattle.typelib.specs.Header.{library}
 use Rattle.sheet_sizes.proofs.trees.after_descriptor.Goals as goal
+
+pub after_user-requires : goal.after_user-requires
+after_user-requires c = c.requires
 
 pub overflow_add-result : goal.overflow_add-result
 overflow_add-result c = omega (arith, ahead-most _ _ c.requires c.after_user.ensures)
@@ -18,13 +22,9 @@ pub returns-in-27 : goal.returns-in-27
 unfolding description_of
 returns-in-27 c = level-as _ _ _ (description-case 27 c.args.s.now (library c.args.lib.now) _ c.args.second _ (sym c.bits.ensures ∙ c.in-27.is) refl) (level-safe-array _ _ _ c.ranges.second c.ahead-in-27.ensures refl)
 
-pub returns-in-28 : goal.returns-in-28
-unfolding description_of
-returns-in-28 c = level-as _ _ _ (description-case 28 c.args.s.now (library c.args.lib.now) _ c.args.second _ (sym c.bits.ensures ∙ c.in-28.is) (ap (λ n. array_of (array_desc_at c.args.s.now (library c.args.lib.now) n)) c.bits-in-28.ensures)) c.after_array.ensures
-
 pub returns-in-29 : goal.returns-in-29
 unfolding description_of
 returns-in-29 c = level-as _ _ _ (description-case 29 c.args.s.now (library c.args.lib.now) _ c.args.second _ (sym c.bits.ensures ∙ c.in-29.is) refl) (level-user _ _ _ c.ranges.second c.after_user.ensures refl refl)
 
 pub returns-in_default : goal.returns-in_default
-returns-in_default c = level-as _ _ _ (description-base _ _ _ _ c.in_default.in_default-own.rest.0.0.0.1 c.in_default.in_default-own.rest.0.0.1 c.in_default.in_default-own.rest.0.1 c.in_default.in_default-own.rest.1 ∙ ap (λ n. description_of c.args.s.now (library c.args.lib.now) n c.args.second) c.bits.ensures) (level-base _ _ _ _ c.leaf.ensures)
+returns-in_default c = level-put _ _ _ _ c.requires (no-user _ _ _ _ (λ z. c.in_default.in_default-own.rest.1 (c.bits.ensures ∙ z))) (measured c.put_descriptor.ensures.0.moves, c.put_descriptor.ensures.1)

@@ -1,17 +1,17 @@
+use Rattle.sheet_sizes.proofs.CountLaws.{ahead-measured, known-e, bytes-e, stays-e}
+use Rattle.sheet_sizes.proofs.TreeLaws.{whole-tree, inline-long, inline-base}
+use mathlib.Core.Path.{refl}
 use mathlib.Core.List.{[], ◌∷◌}
-use native.Mathlib.Omega.{arith}
-use Rattle.sheet_sizes.proofs.TreeLaws.{whole-tree, inline-long, inline-base, behind-e, bytes-behind}
-use Rattle.sheet_sizes.proofs.CountLaws.{known-e, stays-e}
 use Rattle.sheet_sizes.proofs.trees.after_tree.Goals as goal
 
 pub returns-then-from-gt-PAST : goal.returns-then-from-gt-PAST
-returns-then-from-gt-PAST c = record { ending = stays-e _ _ _ c.if-from-gt-PAST.true; known = c.requires }
+returns-then-from-gt-PAST c = stays-e _ _ _ c.if-from-gt-PAST.true
 
 pub returns-then-field-lt-NEGATIVE : goal.returns-then-field-lt-NEGATIVE
-returns-then-field-lt-NEGATIVE c = record { ending = rw c.behind.ensures (known-e (whole-tree _ _ _) (behind-e _ _ _ _ c.if-from-gt-PAST.false c.known_tree-end.ensures.nested_counted.is)); known = c.known_tree-end.ensures.known }
+returns-then-field-lt-NEGATIVE c = rw c.ahead.ensures (known-e (whole-tree _ _ _) (c.after_nested-end.ensures.is _))
 
 pub returns-then-s-gt-LIMIT : goal.returns-then-s-gt-LIMIT
-returns-then-s-gt-LIMIT c = record { ending = rw c.behind-then-s-gt-LIMIT.ensures (known-e (inline-long _ _ _ c.if-s-gt-LIMIT.true) (bytes-behind _ (0 ∷ []) c.if-from-gt-PAST.false (omega arith))); known = c.requires }
+returns-then-s-gt-LIMIT c = known-e (inline-long _ _ _ c.if-s-gt-LIMIT.true) (bytes-e _ _ _ (ahead-measured _ c.ahead-then-s-gt-LIMIT.ensures (0 ∷ []) refl))
 
 pub returns : goal.returns
-returns c = record { ending = rw c.behind-2.ensures (known-e (inline-base _ _ _ c.if-field-lt-NEGATIVE.false c.if-s-gt-LIMIT.false) (bytes-behind _ (0 ∷ 0 ∷ 0 ∷ []) c.if-from-gt-PAST.false (omega arith))); known = c.requires }
+returns c = known-e (inline-base _ _ _ c.if-field-lt-NEGATIVE.false c.if-s-gt-LIMIT.false) (bytes-e _ _ _ (ahead-measured _ c.ahead-2.ensures (0 ∷ 0 ∷ 0 ∷ []) refl))

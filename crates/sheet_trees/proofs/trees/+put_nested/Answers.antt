@@ -11,7 +11,7 @@ pub overflow_sub-levels : goal.overflow_sub-levels
 overflow_sub-levels t c = omega (arith, pos_of_ne-zero c.if-levels-eq0.false)
 
 pub put_nested-requires : goal.put_nested-requires
-put_nested-requires t c = (omega (arith, c.requires.0, pos_of_ne-zero c.if-levels-eq0.false), tt)
+put_nested-requires t c = (omega (arith, pos_of_ne-zero c.if-levels-eq0.false), tt)
 
 pub shape_of-out-in-Field : goal.shape_of-out-in-Field
 shape_of-out-in-Field t c = (branch-laid _ _ _ _ c.if-levels-eq0.false refl c.put_level-level.ensures.1 c.in-Field.is c.put_level-level.ensures.0 c.put_nested.ensures).keeps
