@@ -5,12 +5,12 @@
 
 mod hex;
 
-ghost use Rattle.std.specs.Prelude.{◌≡◌, take};
+ghost use Rattle.std.specs.Prelude.{◌≡◌, ◌≤◌, take, IfOk};
 ghost use Rattle.records.specs.Told.{told_usize};
 ghost use Rattle.tlbsheet.specs.Program.{Replied};
 
-use libc::{STDIN_FILENO, STDOUT_FILENO};
 use records::answer::UsizeAnswer;
+use std::io::{self, Print, Read, Stdin};
 
 // The most bytes of input. More fill the room for it, which has one byte more.
 const MOST: usize = 65_536;
@@ -24,17 +24,27 @@ const LINE_ROOM: usize = 131_073;
 
 // (Where the function that makes an array lends it as a slice, the prover writes out its elements, here
 // too many. So each is lent as an array first.)
-fn main() {
+fn main(rt: HostRuntime) -> io::Result<()> {
     let mut input = [0u8; INPUT_ROOM];
     let mut output = [0u8; SHEET_ROOM];
-    let size = fill(&mut input);
+    let size = fill(&mut rt.stdin(), &mut input)?;
     let answer = answer_to(&input, size, &mut output);
-    show(answer, &output);
+    show(&rt, answer, &output)
 }
 
 // Reads standard input to its end or until the room is full, and replies how many bytes it has.
-fn fill(input: &mut [u8; INPUT_ROOM]) -> usize {
-    io::read_full(STDIN_FILENO, input)
+fn fill(stdin: &mut Stdin, input: &mut [u8; INPUT_ROOM]) -> io::Result<usize>
+    ensures { IfOk result (λ size. size ≤ INPUT_ROOM) }
+{
+    let mut size = 0;
+    while size < INPUT_ROOM {
+        let more = stdin.read(&mut input[size..])?;
+        if more == 0 {
+            break;
+        }
+        size += more;
+    }
+    Ok(size)
 }
 
 // The sheet of the first `size` bytes of the input.
@@ -47,26 +57,25 @@ fn answer_to(input: &[u8; INPUT_ROOM], size: usize, output: &mut [u8; SHEET_ROOM
     sheet::sheet(front(input, size), output)
 }
 
-fn show(answer: UsizeAnswer, output: &[u8; SHEET_ROOM]) {
+fn show(rt: &HostRuntime, answer: UsizeAnswer, output: &[u8; SHEET_ROOM]) -> io::Result<()> {
     match answer {
         UsizeAnswer::Value(size) => {
             let mut line = [0u8; LINE_ROOM];
-            show_sheet(output, size, &mut line);
+            show_sheet(rt, output, size, &mut line)
         }
-        UsizeAnswer::Refused(number) => show_refusal(number),
+        UsizeAnswer::Refused(number) => println!(rt; "refused {number}"),
     }
 }
 
 // Prints the first `size` bytes of the output.
-fn show_sheet(output: &[u8; SHEET_ROOM], size: usize, line: &mut [u8; LINE_ROOM]) {
+fn show_sheet(
+    rt: &HostRuntime,
+    output: &[u8; SHEET_ROOM],
+    size: usize,
+    line: &mut [u8; LINE_ROOM],
+) -> io::Result<()> {
     let len = hex::put_line(front(output, size), line);
-    print(front(line, len));
-}
-
-fn show_refusal(number: u8) {
-    print(b"refused ");
-    io::print_decimal(STDOUT_FILENO, number as u64);
-    print(b"\n");
+    rt.write_all(front(line, len))
 }
 
 // The first `size` bytes; all of them where there are fewer.
@@ -77,8 +86,4 @@ fn front(s: &[u8], size: usize) -> &[u8]
         return s;
     }
     &s[..size]
-}
-
-fn print(text: &[u8]) {
-    io::write_all(STDOUT_FILENO, text);
 }
