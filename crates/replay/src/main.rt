@@ -28,82 +28,111 @@ mod steps;
 mod tables;
 mod words;
 
+ghost use Rattle.std.specs.Prelude.{◌≤◌, IfOk};
+
 use entry::{CountRead, Item, ItemRead, Lent};
 use progress::Progress;
+use std::fs::File;
+use std::io::{self, Read};
 
 // A file that fills all of this may be longer, and is not replayed.
 const ROOM: usize = 2_097_152;
 
-fn main() {
-    replay_file(b"records", 0, kinds::COUNT);
-    replay_file(b"libraries", kinds::COUNT, library::END);
-    replay_file(b"beside", kinds::COUNT, library::END);
+fn main(rt: HostRuntime) -> io::Result<()> {
+    replay_file(&rt, "records", 0, kinds::COUNT)?;
+    replay_file(&rt, "libraries", kinds::COUNT, library::END)?;
+    replay_file(&rt, "beside", kinds::COUNT, library::END)
 }
 
 // Replays a file, whose questions ask what is from `first` on and before `end`.
-fn replay_file(file: &[u8], first: u8, end: u8) {
-    let fd = os::open_read(file);
-    if fd < 0 {
-        report::trouble(file, b" cannot be opened");
-        return;
-    }
+fn replay_file(rt: &HostRuntime, file: &str, first: u8, end: u8) -> io::Result<()> {
+    let Ok(mut opened) = File::open(rt, file) else {
+        return report::trouble(rt, file, "cannot be opened");
+    };
     let mut room = [0u8; ROOM];
-    let size = fill(fd, &mut room);
-    libc::close(fd);
-    replay(file, &room, size, first, end);
+    let size = fill(&mut opened, &mut room)?;
+    replay(rt, file, &room, size, first, end)
 }
 
-// Reads the file, and replies how many bytes it has. (Where the function that makes an array lends it
-// as a slice, the prover writes out its elements, here too many. So it is lent as an array first.)
-fn fill(fd: i32, room: &mut [u8; ROOM]) -> usize {
-    io::read_full(fd, room)
+// Reads the file to its end or until the room is full, and replies how many bytes it has. (Where the function that makes an array
+// lends it as a slice, the prover writes out its elements, here too many. So it is lent as an array first.)
+fn fill(file: &mut File, room: &mut [u8; ROOM]) -> io::Result<usize>
+    ensures { IfOk result (λ size. size ≤ ROOM) }
+{
+    let mut size = 0;
+    while size < ROOM {
+        let more = file.read(&mut room[size..])?;
+        if more == 0 {
+            break;
+        }
+        size += more;
+    }
+    Ok(size)
 }
 
 // Replays the file that is the first `size` bytes of `room`.
-fn replay(file: &[u8], room: &[u8; ROOM], size: usize, first: u8, end: u8) {
+fn replay(
+    rt: &HostRuntime,
+    file: &str,
+    room: &[u8; ROOM],
+    size: usize,
+    first: u8,
+    end: u8,
+) -> io::Result<()> {
     if size == ROOM {
-        report::trouble(file, b" is too long");
-        return;
+        return report::trouble(rt, file, "is too long");
     }
     let s = entry::part(room, 0, size);
     match entry::count(s, first, end) {
         CountRead::Value(count) => {
-            replay_kinds(file, s, count, first, end);
-            count_libraries(file, s, count, first)
+            replay_kinds(rt, file, s, count, first, end)?;
+            count_libraries(rt, file, s, count, first)
         }
-        CountRead::Malformed => report::trouble(file, b" is cut off or malformed"),
+        CountRead::Malformed => report::trouble(rt, file, "is cut off or malformed"),
     }
 }
 
 // Replays the questions kind by kind, with a line for each kind that is asked and one for the file.
-fn replay_kinds(file: &[u8], s: &[u8], count: u32, first: u8, end: u8) {
+fn replay_kinds(
+    rt: &HostRuntime,
+    file: &str,
+    s: &[u8],
+    count: u32,
+    first: u8,
+    end: u8,
+) -> io::Result<()> {
     let mut all = progress::start(0, 0);
     let mut kind = first;
     while kind < end {
         let of_kind = replay_kind(s, count, kind, all.shown);
-        report::kind_line(of_kind);
+        report::kind_lines(rt, of_kind, all.shown)?;
         all = progress::sum(all, of_kind);
         kind += 1;
     }
-    report::print(file);
-    report::counts_line(all);
+    print!(rt; "{file}")?;
+    report::counts_line(rt, all)
 }
 
 // Prints how many libraries the file lends that the Rust reads as it is, and how many in which it is kept to its
 // tables. The records of the first file are no libraries.
-fn count_libraries(file: &[u8], s: &[u8], count: u32, first: u8) {
+fn count_libraries(
+    rt: &HostRuntime,
+    file: &str,
+    s: &[u8],
+    count: u32,
+    first: u8,
+) -> io::Result<()> {
     if first == 0 {
-        return;
+        return Ok(());
     }
     let as_they_are = replay_kind(s, count, entry::LENT, 0);
     let kept = replay_kind(s, count, entry::KEPT, 0);
-    report::print(file);
-    report::libraries_line(as_they_are.questions, kept.questions);
+    report::libraries_line(rt, file, as_they_are.questions, kept.questions)
 }
 
 // Replays the questions of one kind, wherever they stand, about the bytes that were lent last before
 // each. (`entry::count` has found no item malformed.)
-fn replay_kind(s: &[u8], count: u32, kind: u8, shown: u64) -> Progress {
+fn replay_kind(s: &[u8], count: u32, kind: u8, shown: usize) -> Progress {
     let mut progress = progress::start(kind, shown);
     let mut lent = entry::nothing_lent();
     let mut at = entry::FIRST;

@@ -1,6 +1,15 @@
 // How far the replay has come, and what it has counted.
-use crate::report;
 use std::num::{wrapping_add_u32, wrapping_add_u64};
+
+// An answer that is not the recorded one, by the numbers of its question and of itself.
+#[derive(Clone, Copy)]
+pub struct Difference {
+    pub item: u32,
+    pub answer: u32,
+}
+
+// The most differences to print.
+pub const MOST_SHOWN: usize = 10;
 
 // The counts are of one kind, or of all. No file holds so much that they wrap, and sums that may wrap
 // need no proof.
@@ -16,14 +25,12 @@ pub struct Progress {
     pub answers: u64,
     pub refusals: u64,
     pub differences: u64,
-    // How many differences were printed, of all kinds.
-    pub shown: u64,
+    // How many differences are to be printed, of all kinds, and those of this one among them, each at its number.
+    pub shown: usize,
+    pub noted: [Difference; MOST_SHOWN],
 }
 
-// The most differences to print.
-const MOST_SHOWN: u64 = 10;
-
-pub(crate) fn start(kind: u8, shown: u64) -> Progress {
+pub(crate) fn start(kind: u8, shown: usize) -> Progress {
     Progress {
         kind,
         item: 0,
@@ -34,6 +41,7 @@ pub(crate) fn start(kind: u8, shown: u64) -> Progress {
         refusals: 0,
         differences: 0,
         shown,
+        noted: [Difference { item: 0, answer: 0 }; MOST_SHOWN],
     }
 }
 
@@ -69,7 +77,7 @@ pub(crate) fn answered(before: Progress, is_same: bool, first: u8, next: usize) 
     progress
 }
 
-// Counts a difference where there is one, and prints it if it is among the first.
+// Counts a difference where there is one, and keeps it if it is among the first.
 pub(crate) fn noted(before: Progress, is_same: bool) -> Progress {
     let mut progress = before;
     if is_same {
@@ -77,8 +85,11 @@ pub(crate) fn noted(before: Progress, is_same: bool) -> Progress {
     }
     progress.differences = wrapping_add_u64(progress.differences, 1);
     if progress.shown < MOST_SHOWN {
-        progress.shown = wrapping_add_u64(progress.shown, 1);
-        report::difference(progress.item, progress.kind, progress.answer);
+        progress.noted[progress.shown] = Difference {
+            item: progress.item,
+            answer: progress.answer,
+        };
+        progress.shown += 1;
     }
     progress
 }

@@ -1,59 +1,55 @@
 // What the program prints.
 use crate::names;
 use crate::progress::Progress;
-use libc::STDOUT_FILENO;
+use std::io::{self, Print};
 
 // Why a file cannot be replayed.
-pub(crate) fn trouble(file: &[u8], what: &[u8]) {
-    print(b"the file ");
-    print(file);
-    print(what);
-    print(b"\n");
+pub(crate) fn trouble(rt: &HostRuntime, file: &str, what: &str) -> io::Result<()> {
+    println!(rt; "the file {file} {what}")
 }
 
-// That an answer is not the recorded one. The number behind the last answer's is that of the end of
-// the recorded bytes.
-pub(crate) fn difference(item: u32, kind: u8, answer: u32) {
-    print(b"item ");
-    io::print_decimal(STDOUT_FILENO, item as u64);
-    print(b": ");
-    names::print_kind(kind);
-    print(b", answer ");
-    io::print_decimal(STDOUT_FILENO, answer as u64);
-    print(b" differs\n");
+// The answers of a kind that are not the recorded ones, but for the first `before` of those that are shown. The number behind the last
+// answer's is that of the end of the recorded bytes.
+fn differences(rt: &HostRuntime, of_kind: Progress, before: usize) -> io::Result<()> {
+    for noted in of_kind.noted.iter().take(of_kind.shown).skip(before) {
+        let item = noted.item;
+        let answer = noted.answer;
+        print!(rt; "item {item}: ")?;
+        names::print_kind(rt, of_kind.kind)?;
+        println!(rt; ", answer {answer} differs")?;
+    }
+    Ok(())
 }
 
 // Of a kind that the file does not ask there is no line.
-pub(crate) fn kind_line(of_kind: Progress) {
+pub(crate) fn kind_lines(rt: &HostRuntime, of_kind: Progress, before: usize) -> io::Result<()> {
     if of_kind.questions == 0 {
-        return;
+        return Ok(());
     }
-    names::print_kind(of_kind.kind);
-    counts_line(of_kind);
+    differences(rt, of_kind, before)?;
+    names::print_kind(rt, of_kind.kind)?;
+    counts_line(rt, of_kind)
 }
 
 // The end of a line: of a kind, or of a file.
-pub(crate) fn counts_line(counts: Progress) {
-    print(b": ");
-    io::print_decimal(STDOUT_FILENO, counts.questions);
-    print(b" questions, ");
-    io::print_decimal(STDOUT_FILENO, counts.answers);
-    print(b" answers, ");
-    io::print_decimal(STDOUT_FILENO, counts.refusals);
-    print(b" refusals, ");
-    io::print_decimal(STDOUT_FILENO, counts.differences);
-    print(b" differences\n");
+pub(crate) fn counts_line(rt: &HostRuntime, counts: Progress) -> io::Result<()> {
+    let questions = counts.questions;
+    let answers = counts.answers;
+    let refusals = counts.refusals;
+    let differences = counts.differences;
+    println!(rt;
+        ": {questions} questions, {answers} answers, {refusals} refusals, {differences} differences"
+    )
 }
 
 // How many libraries of a file were lent of each kind.
-pub(crate) fn libraries_line(as_they_are: u64, kept: u64) {
-    print(b": ");
-    io::print_decimal(STDOUT_FILENO, as_they_are);
-    print(b" libraries as the Rust reads them, ");
-    io::print_decimal(STDOUT_FILENO, kept);
-    print(b" in which it is kept to its tables\n");
-}
-
-pub(crate) fn print(text: &[u8]) {
-    io::write_all(STDOUT_FILENO, text);
+pub(crate) fn libraries_line(
+    rt: &HostRuntime,
+    file: &str,
+    as_they_are: u64,
+    kept: u64,
+) -> io::Result<()> {
+    println!(rt;
+        "{file}: {as_they_are} libraries as the Rust reads them, {kept} in which it is kept to its tables"
+    )
 }
