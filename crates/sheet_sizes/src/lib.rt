@@ -79,16 +79,16 @@ pub fn figures(s: &[u8]) -> FiguresAnswer
     if MOST_TYPES < lib.count() {
         return FiguresAnswer::Refused(13);
     }
-    let c = count_sheet(&*s, &lib.numbers);
-    if emit::PAST < c.to {
-        return FiguresAnswer::Refused(((c.to - emit::PAST - 1) % 256) as u8);
+    let whole = count_sheet(&*s, &lib.numbers);
+    if emit::PAST < whole.to {
+        return FiguresAnswer::Refused(((whole.to - emit::PAST - 1) % 256) as u8);
     }
     FiguresAnswer::Value(SheetFigures {
-        length: c.to as u32,
-        functions: c.functions as u32,
-        parameters: c.parameters as u32,
-        variables: c.variables as u32,
-        references: c.references as u32,
+        length: whole.to as u32,
+        functions: whole.functions as u32,
+        parameters: whole.parameters as u32,
+        variables: whole.variables as u32,
+        references: whole.references as u32,
     })
 }
 
