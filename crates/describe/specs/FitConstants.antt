@@ -16,7 +16,6 @@ use Rattle.util.specs.Real as real
 use Rattle.records.specs.declared.answer.Place.{Place}
 use Rattle.records.specs.declared.types.ConstValue.{ConstValue}
 use Rattle.records.specs.declared.types.ConstValue.TheVariants as const
-use Rattle.records.specs.Answer.{value}
 use Rattle.records.specs.Record.{bits_of}
 use Rattle.records.specs.Types.{vt_of}
 use Rattle.typelib.specs.declared.TypeLib.{TypeLib}

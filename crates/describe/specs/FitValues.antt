@@ -16,7 +16,7 @@ use Rattle.typelib.specs.declared.TypeLib.{TypeLib}
 use Rattle.typelib.specs.Names.{name_behind, name_bytes, guid_place}
 use Rattle.typelib.specs.Tables.{table_place}
 use Rattle.typelib.specs.TableLaws.{found as found-place}
-use Rattle.description.specs.Format.{Fits, Each, octets, counted, number, opt}
+use Rattle.description.specs.Format.{Fits, Each, counted, number, opt}
 use Rattle.description.specs.Sheet.{guid, name}
 use Rattle.description.specs.Fit.{opt-fits, counted-fits}
 use Rattle.describe.specs.Values.{Octets, bytes_in}

@@ -3,7 +3,7 @@ use Rattle.std.specs.Prelude.{List, [], ◌∷◌, ℕ, zero, suc, ◌+◌}
 use mathlib.Core.List as list
 use Rattle.records.specs.declared.answer.Place.{Place}
 use Rattle.records.specs.declared.typeinfo.TypeInfoEntry.{TypeInfoEntry}
-use Rattle.records.specs.Answer.{Answer, value, refused, map, bind}
+use Rattle.records.specs.Answer.{Answer, value, map, bind}
 use Rattle.records.specs.Layout.{type_info_base, ref_record}
 use Rattle.records.specs.Record.{bits_of}
 use Rattle.typelib.specs.declared.TypeLib.{TypeLib}

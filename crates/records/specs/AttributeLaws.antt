@@ -1,10 +1,10 @@
 -- Laws of `Attributes`, a case each. Assumes nothing.
-use Rattle.std.specs.Prelude.{◌≡◌, refl, Bool, true, false, cond, List, ℕ, ◌+◌, ◌-◌, ◌*◌, ◌/◌, ◌^◌, ◌≤◌, ◌<◌, leb, ltb, ℤ, pos, negsuc}
-use Rattle.std.proofs.Common.{sym, ◌∙◌, ap, arith, to_z}
+use Rattle.std.specs.Prelude.{◌≡◌, Bool, true, false, List, ℕ, ◌+◌, ◌-◌, ◌*◌, ◌/◌, ◌≤◌, ◌<◌, ℤ}
+use Rattle.std.proofs.Common.{arith, to_z}
 use borrow.Author.Tests.{le-leb, lt-leb, le-ltb, lt-ltb}
 use Rattle.std.specs.Int.{w16}
-use Rattle.records.specs.Answer.{Answer, value, refused}
-use Rattle.records.specs.Layout.{size_of, func_record, parameter_info}
+use Rattle.records.specs.Answer.{Answer, refused}
+use Rattle.records.specs.Layout.{size_of, func_record}
 use Rattle.records.specs.Record.{field_at, signed32}
 use Rattle.records.specs.Attributes.{attribute_at, at_least_zero, default_at, attribute_room}
 

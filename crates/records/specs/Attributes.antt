@@ -3,7 +3,7 @@
 use Rattle.std.specs.Prelude.{Bool, false, cond, List, ℕ, ◌+◌, ◌-◌, ◌*◌, ◌/◌, leb, ltb, ℤ, pos, negsuc}
 use Prim.Native.String.{String}
 use Rattle.records.specs.Answer.{Answer, refused, map, bind}
-use Rattle.records.specs.Layout.{Layout, size_of, offset_of, parameter_info, var_record, var_attributes, func_record, func_attributes}
+use Rattle.records.specs.Layout.{size_of, offset_of, parameter_info, var_record, var_attributes, func_record, func_attributes}
 use Rattle.records.specs.Record.{field, field_at, signed16, signed32, bits_of, flag_set}
 
 -- attribute k of a record that has room for `count`; a missing one is 9

@@ -1,5 +1,5 @@
 -- Records whose length is in a field: array descriptors and import files; and texts. Assumes nothing.
-use Rattle.std.specs.Prelude.{cond, List, ℕ, ◌+◌, ◌*◌, ◌/◌, leb, ℤ, take, drop}
+use Rattle.std.specs.Prelude.{cond, List, ℕ, ◌+◌, ◌*◌, ◌/◌, leb}
 use Rattle.utf8.specs.Utf8.{utf8}
 use Rattle.utf8.specs.Looked.{checked}
 use Rattle.utf8.specs.declared.TextCheck.{TextCheck}

@@ -1,5 +1,5 @@
 -- What stands behind `parse`. Assumes nothing.
-use Rattle.std.specs.Prelude.{◌≡◌, refl, List, ℕ, ◌+◌, ◌*◌, leb, ltb, eqb, length}
+use Rattle.std.specs.Prelude.{◌≡◌, List, ℕ, ◌+◌, ◌*◌, leb, ltb, eqb, length}
 use Rattle.std.proofs.Common.{sym, ap, ◌∙◌, arith}
 use Rattle.util.specs.Read.{cond-elim}
 use Rattle.records.specs.Answer.{Answer, value, refused}
@@ -7,7 +7,7 @@ use Rattle.records.specs.Layout.{size_of}
 use Rattle.records.specs.Record.{limit}
 use Rattle.typelib.specs.declared.TypeLib.{TypeLib}
 use Rattle.typelib.specs.Header.{header, p_seg, word, signature, directory_at, parse_of, parsed}
-use Rattle.replies.specs.Call.{refusal_of, library_in, after, past}
+use Rattle.replies.specs.Call.{refusal_of, library_in, past}
 use Rattle.replies.specs.CallLaws.{after_none, after-some}
 
 -- ---- `parse` refuses with no 0

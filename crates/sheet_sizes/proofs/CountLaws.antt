@@ -1,7 +1,7 @@
 -- The laws of counting. Assumes nothing.
 use mathlib.Core.Path.{◌≡◌, refl, sym, ap, ◌∙◌}
 use mathlib.Core.List.{List, [], ◌∷◌}
-use Prim.Native.Nat.{ℕ, ◌-◌, ◌<◌}
+use Prim.Native.Nat.{ℕ, ◌<◌}
 use lib.ListN.{length}
 use Rattle.records.specs.Answer.{Answer, value, refused, map}
 use Rattle.description.specs.Description.{Bytes}

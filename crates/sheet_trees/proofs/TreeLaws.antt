@@ -26,7 +26,7 @@ use Rattle.typelib.specs.Descriptors.{type_description}
 use Rattle.typelib.specs.DescriptorLaws.{field-base}
 use Rattle.description.specs.Format.{encode, le_bytes, joined}
 use Rattle.description.specs.Description.{Bytes, Dimension, Tree}
-use Rattle.description.specs.Description.Tree.{nothing, base, pointer, safe_array, c_array}
+use Rattle.description.specs.Description.Tree.{pointer, safe_array, c_array}
 use Rattle.description.specs.Sheet.{edition-one, dimension, level, nested, tree}
 use Rattle.description.specs.Sheet.{reference as referred}
 use Rattle.describe.specs.Values.{field_of}

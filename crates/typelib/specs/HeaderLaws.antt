@@ -1,11 +1,11 @@
 -- `parse_of`, a case each. Assumes nothing.
-use Rattle.std.specs.Prelude.{◌≡◌, refl, cond, List, ℕ, zero, suc, ◌+◌, ◌-◌, ◌*◌, ◌/◌, ◌%◌, ◌^◌, ◌≤◌, ◌<◌, leb, ltb, eqb, length, get_or, take, drop}
+use Rattle.std.specs.Prelude.{◌≡◌, refl, List, ℕ, zero, suc, ◌+◌, ◌-◌, ◌*◌, ◌/◌, ◌%◌, ◌^◌, ◌≤◌, ◌<◌, length, get_or, take, drop}
 use Rattle.std.proofs.Common.{sym, ◌∙◌, ap, arith, length-drop, get_or-take, get_or-drop, length-take-le}
 use borrow.Author.Tests.{le-leb, lt-leb, le-ltb, lt-ltb, eq-eqb, ne_eqb}
 use Rattle.util.specs.Read.{le, read, or_zero, read-zero}
-use Rattle.records.specs.Answer.{Answer, value, refused}
+use Rattle.records.specs.Answer.{value, refused}
 use Rattle.records.specs.Record.{limit}
-use Rattle.typelib.specs.Header.{header, signature, word, table_at, directory_at, library_of, parse_of}
+use Rattle.typelib.specs.Header.{signature, word, table_at, directory_at, library_of, parse_of}
 
 module _ (s : List ℕ) where
   pub parse-long : limit < length s → refused 1 ≡ parse_of s

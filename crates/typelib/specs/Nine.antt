@@ -1,18 +1,17 @@
 -- Over bytes that are not over-long, a reading of a record or of the words behind it refuses with 9 and no other number;
 -- over bytes that are, with 1.
 -- Assumes nothing.
-use Rattle.std.specs.Prelude.{◌≡◌, refl, cond, List, ℕ, ◌+◌, ◌≤◌, ◌<◌, leb, ltb, length}
-use Rattle.std.proofs.Common.{sym, ◌∙◌, ap, arith, ltb-true}
+use Rattle.std.specs.Prelude.{◌≡◌, List, ℕ, ◌+◌, ◌≤◌, ◌<◌, leb, ltb, length}
+use Rattle.std.proofs.Common.{ap, arith, ltb-true}
 use Rattle.std.proofs.Math.Option.{Option, some, none}
 use Rattle.util.specs.Read.{read, cond-elim}
-use Rattle.records.specs.declared.answer.Place.{Place}
 use Rattle.records.specs.declared.typeinfo.TypeInfoEntry.{TypeInfoEntry}
 use Rattle.records.specs.Answer.{Answer, value, refused, map, bind, or_nine}
 use Rattle.records.specs.AnswerLaws.{map-refused, bind-refused}
 use Rattle.records.specs.RecordLaws.{held-long, place-refused, field-refused}
 use Rattle.records.specs.Record.{limit, held, field_place, field_at}
 use Rattle.typelib.specs.declared.typeinfos.Counts.{Counts}
-use Rattle.typelib.specs.TypeInfos.{block_at, aux_word, aux_in, aux_at, counts_of, member_word}
+use Rattle.typelib.specs.TypeInfos.{block_at, aux_word, aux_in, member_word}
 
 abbrev pub OnlyNine : {A : Type 0} → Answer A → Type 0
 OnlyNine a = (n : ℕ) → refused n ≡ a → n ≡ 9

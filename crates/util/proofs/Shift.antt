@@ -1,5 +1,5 @@
 -- A shift and a mask of a 32-bit number, at every shift and count. Assumes nothing.
-use mathlib.Core.Path.{◌≡◌, ◌∙◌, sym, ap}
+use mathlib.Core.Path.{◌≡◌, sym}
 use Prim.Native.Nat.{ℕ, ◌-◌, ◌*◌, ◌/◌, ◌%◌, ◌^◌, ◌≤◌, ◌<◌}
 use native.Mathlib.Nat.{one-mul, mod-eq_of_lt, div-eq_of_lt, zero-mod, lt_of_lt_of_le, lt_of_le_of_lt}
 use lib.Bits.{bit_and, and_mask}

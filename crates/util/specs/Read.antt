@@ -1,7 +1,7 @@
 -- Little-endian numbers in a list of bytes, over the width. Wine's typelib.h stores an INT in four bytes and an INT16 in
 -- two, the lowest first. Assumes nothing.
 use Rattle.std.specs.Prelude.{◌≡◌, refl, Bool, true, false, cond, List, ℕ, zero, suc, ◌+◌, ◌*◌, ◌^◌, ◌-◌, ◌<◌, ◌≤◌, leb, length, get_or}
-use Rattle.std.proofs.Common.{◌∙◌, sym, ap, zero-add, add-zero, one-mul, suc-add, add-suc, mul_assoc, arith, le-leb, leb-true, leb-false}
+use Rattle.std.proofs.Common.{◌∙◌, sym, ap, zero-add, add-zero, one-mul, suc-add, mul_assoc, arith, le-leb, leb-true, leb-false}
 use Rattle.std.proofs.Math.Option.{Option, some, none}
 use Rattle.std.proofs.Math.Nat.{pow-succ'}
 use Rattle.std.proofs.lemmas.Bool.{lt-leb}

@@ -2,7 +2,7 @@ use Rattle.typelib.specs.Header.{library}
 use Rattle.constants.specs.Constants.{stored_width, constant_of, text_behind}
 use Rattle.constants.specs.ConstantLaws.{value-text, value-decimal, value-number}
 use Rattle.typelib.specs.Tables.{table_place}
-use Rattle.typelib.specs.TableLaws.{Here, found}
+use Rattle.typelib.specs.TableLaws.{found}
 use Rattle.records.specs.Answer.{value}
 use Rattle.records.specs.Told.{told_place}
 use Rattle.records.specs.AnswerLaws.{tells, bind-value, bind-refused}

@@ -1,4 +1,3 @@
-use Prim.Native.Nat.{◌-◌}
 use Rattle.description.specs.Format.{le_bytes}
 use lib.Seq.{sets}
 use lib.ListN.{length}

@@ -2,7 +2,6 @@ use Rattle.sheet_bases.proofs.BaseLaws.{at-start, at_next, at_place, at-end, lin
 use Rattle.emit.specs.Laws.{left-all, left_less, left-none}
 use Rattle.impltypes.specs.Chain.{told_impl_type_step}
 use Rattle.records.specs.AnswerLaws.{tells}
-use Prim.Native.Nat.{◌-◌}
 use native.Mathlib.Omega.{arith}
 use Rattle.sheet_bases.proofs.put_links.Goals as goal
 

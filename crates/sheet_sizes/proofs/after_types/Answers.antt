@@ -1,6 +1,5 @@
 use Rattle.sheet_sizes.proofs.TypeLaws.{types-all, types_more, types-none}
 use Rattle.sheet_sizes.proofs.CountLaws.{left-all, left_less, left-none, left-stopped, known}
-use Prim.Native.Nat.{◌-◌}
 use native.Mathlib.Omega.{arith}
 use borrow.Author.Rules.{rules}
 use Rattle.typelib.specs.Header.{library}

@@ -1,5 +1,4 @@
 use mathlib.Core.Path.{refl, ◌∙◌}
-use Prim.Native.Nat.{◌-◌}
 use native.Mathlib.Omega.{arith}
 use Rattle.utf8.specs.Parts.{at-end, first_read, ascii-read}
 use Rattle.utf8.proofs.ascii.Goals as goal

@@ -3,7 +3,7 @@ use lib.Dec.{eqb}
 use borrow.Author.Tests.{eq-eqb, ne_eqb}
 use Rattle.utf8.specs.Utf8.{after_first, In}
 use Rattle.utf8.specs.Utf8Laws.{Awaits, first-of-3, awaits-1}
-use Rattle.utf8.specs.Parts.{joined, over, Reads}
+use Rattle.utf8.specs.Parts.{joined, over}
 use Rattle.utf8.proofs.tails_of_3.Goals.{then-b-eq224, else-b-eq224, then-b-eq237, else-b-eq237}
 use Rattle.utf8.proofs.tails_of_3.Goals as goal
 

@@ -1,4 +1,3 @@
-use Rattle.cursors.specs.Cursors.{param_cursor}
 use Rattle.typelib.specs.TableLaws.{record-inside}
 use Rattle.records.specs.Told.{told_place, told_u16}
 use Rattle.records.specs.AnswerLaws.{tells, bind-value, bind-refused, map-value, map-refused}

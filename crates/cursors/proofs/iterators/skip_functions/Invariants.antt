@@ -1,6 +1,6 @@
 use Rattle.cursors.specs.Cursors.{skip}
 use lib.ListN.{length}
-use Prim.Native.Nat.{◌+◌, ◌-◌, ◌≤◌}
+use Prim.Native.Nat.{◌+◌, ◌≤◌}
 use mathlib.Core.Path.{◌≡◌}
 use Rattle.cursors.proofs.iterators.skip_functions.Given as goal
 

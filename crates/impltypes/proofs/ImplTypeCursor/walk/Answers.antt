@@ -3,7 +3,6 @@ use Rattle.typelib.specs.TableLaws.{found_in}
 use Rattle.records.specs.Told.{told_place}
 use Rattle.records.specs.AnswerLaws.{tells}
 use native.Mathlib.Omega.{arith}
-use Prim.Native.Nat.{◌-◌}
 use Rattle.impltypes.proofs.ImplTypeCursor.walk.Goals as goal
 
 pub returns-then-s-gt-LIMIT : goal.returns-then-s-gt-LIMIT

@@ -1,5 +1,4 @@
 use Rattle.typelib.specs.Header.{library}
-use Prim.Native.Nat.{◌-◌}
 use native.Mathlib.Omega.{arith}
 use Rattle.emit.specs.Laws.{left-all, left_less, left-none, known}
 use Rattle.sheet_members.proofs.ParameterLaws.{laid-all, laid_one, laid_end}

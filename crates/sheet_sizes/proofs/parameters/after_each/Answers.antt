@@ -1,7 +1,6 @@
 use Rattle.sheet_sizes.proofs.MemberLaws.{parameters-all, parameters-one, parameters-end}
 use Rattle.sheet_sizes.proofs.CountLaws.{left-all, left_less, left-none, known}
 use native.Mathlib.Omega.{arith}
-use Prim.Native.Nat.{◌-◌}
 use Rattle.typelib.specs.Header.{library}
 use Rattle.sheet_sizes.proofs.parameters.after_each.Goals as goal
 

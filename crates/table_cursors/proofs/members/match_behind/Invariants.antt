@@ -1,6 +1,5 @@
 use Rattle.table_cursors.specs.Members.{behind}
 use Rattle.table_cursors.specs.Told.{told_name_step}
-use Prim.Native.Nat.{◌-◌}
 use mathlib.Core.Path.{◌≡◌}
 use Rattle.table_cursors.proofs.members.match_behind.Given as goal
 

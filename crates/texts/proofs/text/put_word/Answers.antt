@@ -1,6 +1,5 @@
 use Rattle.texts.specs.TextLaws.{laid-all, laid_none, word-le, store-less, store-none}
 use mathlib.Core.Path.{refl}
-use Prim.Native.Nat.{◌-◌}
 use native.Mathlib.Omega.{arith}
 use lib.ListN.{length-set}
 use Rattle.texts.proofs.text.put_word.Goals as goal

@@ -1,5 +1,4 @@
 use Rattle.texts.specs.TextLaws.{word_more, word-ends, word-whole}
-use Prim.Native.Nat.{◌-◌}
 use native.Mathlib.Omega.{arith}
 use Rattle.texts.proofs.text.word_length.Goals as goal
 
