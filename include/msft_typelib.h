@@ -87,7 +87,7 @@ static inline const char *msft_refusal_word(int64_t reply)
     }
 }
 
-/* ---- the sheet (msft_sheet needs some 700 KB of stack), and its figures (these some 350 KB) ---- */
+/* ---- the sheet (msft_sheet needs some 150 KB of stack), and its figures ---- */
 
 /* The library's sheet. Writes it whole; -1 to -8, -10 to -13. Two sheets are equal exactly if the two
    libraries have the same description. A sheet that was stored when a reference that hits no typeinfo
@@ -107,9 +107,8 @@ int64_t msft_sheet(const uint8_t *lib, size_t lib_len, uint8_t *out, size_t out_
    length of 16,777,217 is no refusal here; msft_sheet is then -12 whatever its output. This call is refused
    exactly where msft_sheet is by another number than -12, by that number; its own -12 says only that
    out_len is below 20. Its time goes by the members that are read, and not by lib_len: a hostile library,
-   whose types share their records, takes some seconds where it has 64 KB, and can take minutes or more
-   where it is longer. Writes five u32, the length, functions, parameters, variables and references (20
-   bytes); -1 to -8, -10 to -13. */
+   whose types share their records, can take minutes. Writes five u32, the length, functions, parameters,
+   variables and references (20 bytes); -1 to -8, -10 to -13. */
 int64_t msft_sheet_figures(const uint8_t *lib, size_t lib_len, uint8_t *out, size_t out_len);
 
 /* ---- guid: a GUID, by its place ---- */

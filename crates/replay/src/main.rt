@@ -105,7 +105,7 @@ fn replay_kinds(
     let mut kind = first;
     while kind < end {
         let of_kind = replay_kind(s, count, kind, all.shown);
-        report::kind_lines(rt, of_kind, all.shown)?;
+        report::kind_line(rt, of_kind, all.shown)?;
         all = progress::sum(all, of_kind);
         kind += 1;
     }

@@ -1,6 +1,6 @@
 // What the program prints.
 use crate::names;
-use crate::progress::Progress;
+use crate::progress::{Difference, Progress};
 use std::io::{self, Print};
 
 // Why a file cannot be replayed.
@@ -8,25 +8,25 @@ pub(crate) fn trouble(rt: &HostRuntime, file: &str, what: &str) -> io::Result<()
     println!(rt; "the file {file} {what}")
 }
 
-// The answers of a kind that are not the recorded ones, but for the first `before` of those that are shown. The number behind the last
-// answer's is that of the end of the recorded bytes.
-fn differences(rt: &HostRuntime, of_kind: Progress, before: usize) -> io::Result<()> {
-    for noted in of_kind.noted.iter().take(of_kind.shown).skip(before) {
-        let item = noted.item;
-        let answer = noted.answer;
-        print!(rt; "item {item}: ")?;
-        names::print_kind(rt, of_kind.kind)?;
-        println!(rt; ", answer {answer} differs")?;
-    }
-    Ok(())
+// That an answer is not the recorded one. The number behind the last answer's is that of the end of
+// the recorded bytes.
+fn difference(rt: &HostRuntime, kind: u8, noted: Difference) -> io::Result<()> {
+    let item = noted.item;
+    let answer = noted.answer;
+    print!(rt; "item {item}: ")?;
+    names::print_kind(rt, kind)?;
+    println!(rt; ", answer {answer} differs")
 }
 
-// Of a kind that the file does not ask there is no line.
-pub(crate) fn kind_lines(rt: &HostRuntime, of_kind: Progress, before: usize) -> io::Result<()> {
+// The differences of a kind that are to be printed, but for the first `before`, which others had; and its line. Of a kind that the file
+// does not ask there is none.
+pub(crate) fn kind_line(rt: &HostRuntime, of_kind: Progress, before: usize) -> io::Result<()> {
     if of_kind.questions == 0 {
         return Ok(());
     }
-    differences(rt, of_kind, before)?;
+    for noted in of_kind.noted.iter().take(of_kind.shown).skip(before) {
+        difference(rt, of_kind.kind, *noted)?;
+    }
     names::print_kind(rt, of_kind.kind)?;
     counts_line(rt, of_kind)
 }

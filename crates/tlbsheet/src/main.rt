@@ -63,7 +63,7 @@ fn show(rt: &HostRuntime, answer: UsizeAnswer, output: &[u8; SHEET_ROOM]) -> io:
             let mut line = [0u8; LINE_ROOM];
             show_sheet(rt, output, size, &mut line)
         }
-        UsizeAnswer::Refused(number) => println!(rt; "refused {number}"),
+        UsizeAnswer::Refused(number) => show_refusal(rt, number),
     }
 }
 
@@ -76,6 +76,10 @@ fn show_sheet(
 ) -> io::Result<()> {
     let len = hex::put_line(front(output, size), line);
     rt.write_all(front(line, len))
+}
+
+fn show_refusal(rt: &HostRuntime, number: u8) -> io::Result<()> {
+    println!(rt; "refused {number}")
 }
 
 // The first `size` bytes; all of them where there are fewer.

@@ -1,7 +1,6 @@
 use Rattle.typelib.specs.Header.{library, type_count}
 use borrow.Author.Rules.{rules}
 use native.Mathlib.Omega.{arith}
-use Prim.Native.Nat.{◌-◌}
 use mathlib.Core.Path.{refl, sym, ◌∙◌}
 use native.Mathlib.Numerals.{lt_of_le_of_ne}
 use Rattle.sheet.proofs.ContentLaws.{patch-keeps, types-start, types-less, types-none, types-refused}
