@@ -11,7 +11,7 @@ use Rattle.records.specs.Record.{limit}
 use Rattle.description.specs.Format.{Fits}
 use Rattle.description.specs.Description.{Bytes, Library}
 use Rattle.description.specs.Sheet.{Edition, edition-one, sheet, sheet_bytes}
-use Rattle.description.specs.Laws.{sheets-same}
+use Rattle.description.proofs.Laws.{sheets-same}
 use Rattle.describe.specs.Describe.{describe}
 use Rattle.describe.specs.Call.{within, sheet_of, written, Call}
 use Rattle.describe.specs.Fit.{Roomy, edition-one-roomy, described-fits}

@@ -14,7 +14,8 @@ use Rattle.description.specs.Format.{Fits, Each}
 use Rattle.description.specs.Description.{Library}
 use Rattle.description.specs.Sheet.{Edition, edition-one, type_info, sheet, sheet_bytes}
 use Rattle.description.specs.Sheet as sheet
-use Rattle.description.specs.Fit.{Fitting, fitting-fits}
+use Rattle.description.specs.Fit.{Fitting}
+use Rattle.description.proofs.Fit.{fitting-fits}
 use Rattle.describe.specs.Values.{Octets, field_of}
 use Rattle.describe.specs.Types.{types_from}
 use Rattle.describe.specs.Describe.{header_of, describe_as, describe}

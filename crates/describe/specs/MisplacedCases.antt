@@ -16,7 +16,7 @@ use Rattle.cursors.specs.Cursors.{block_with}
 use Rattle.description.specs.Format.{le_bytes, joined, opt}
 use Rattle.description.specs.Description.{Bytes, Reference, TypeInfo, Library}
 use Rattle.description.specs.Description.Reference.{unresolved, internal, misplaced}
-use Rattle.description.specs.Sheet.{edition-one, u32, sheet_bytes, sheet, contents, contents_of, bodies, header, type_info, reference, bit}
+use Rattle.description.specs.Sheet.{edition-one, u32, sheet_bytes, sheet_layout, contents, contents_of, bodies, header, type_info, reference, bit}
 use Rattle.description.specs.Sheet.{internal as internal-format, misplaced as misplaced-format}
 use Rattle.describe.specs.WorkedCases.{zeros}
 use Rattle.describe.specs.Values.{all, numbered}
@@ -121,5 +121,5 @@ abbrev pub said : Row → Case
 said r = (r.resolved, (value (described r.count r.description), value (laid_out r.count r.bytes)))
 
 pub misplaced-cases : list.map defined rows ≡ list.map said rows
-unfolding describe describe_as header_of types_from type_of type_at all guid_of name_of functions_of variables_of numbered yields func_records var_records block_with held field_place reference_of reference_from is_misplaced parse_of library_of tabulate segment_of segment_place place_in lent le read offset_word typeinfo_in internal_index resolved_at sheet_bytes sheet contents contents_of bodies header type_info reference internal-format misplaced-format bit opt le_bytes
+unfolding describe describe_as header_of types_from type_of type_at all guid_of name_of functions_of variables_of numbered yields func_records var_records block_with held field_place reference_of reference_from is_misplaced parse_of library_of tabulate segment_of segment_place place_in lent le read offset_word typeinfo_in internal_index resolved_at sheet_bytes sheet_layout contents contents_of bodies header type_info reference internal-format misplaced-format bit opt le_bytes
 misplaced-cases = refl

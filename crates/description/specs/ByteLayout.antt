@@ -5,7 +5,7 @@ use Rattle.std.proofs.Math.Path.{refl}
 use Rattle.std.proofs.Math.Option.{Option, none, some}
 use Rattle.description.specs.Format.{Format, encode, number, joined, counted, opt}
 use Rattle.description.specs.Description.{Bytes, File, own_is_guid, Import, Internal, Misplaced, Reference, Dimension, Tree, Shape, shape_of, Constant, is_constant, Variable, Parameter, Function, ImplType, BaseShape, base_shape_of, Base, TypeInfo, Header, Library}
-use Rattle.description.specs.Sheet.{Edition, u8, u16, u32, bit, guid, name, file, own, import, internal, misplaced, reference, dimension, level, nested, tree, value, constant, variable_value, variable, parameter, function, impl_type, base, type_info, header, contents, contents_of, bodies, sheet, sheet_bytes}
+use Rattle.description.specs.Sheet.{Edition, u8, u16, u32, bit, guid, name, file, own, import, internal, misplaced, reference, dimension, level, nested, tree, value, constant, variable_value, variable, parameter, function, impl_type, base, type_info, header, contents, contents_of, bodies, sheet_layout, sheet_bytes}
 
 -- one part behind the other
 abbrev pub in_order : List (List ℕ) → List ℕ
@@ -41,7 +41,7 @@ pub sheet-bytes : (e : Edition) (d : Library) → let n : ℕ = length d.types i
     ∷ joined u32 (map (λ t. length (encode (type_info e n) t)) d.types)
     ∷ [])
     ++ in_order (encode header d.header ∷ joined (type_info e n) d.types ∷ [])
-unfolding sheet_bytes sheet contents contents_of bodies
+unfolding sheet_bytes sheet_layout contents contents_of bodies
 sheet-bytes e d = refl
 
 -- Library:

@@ -3,7 +3,7 @@ use Rattle.std.specs.Prelude.{◌≡◌, refl, [], ◌∷◌}
 use Rattle.std.proofs.Math.Option.{none}
 use Rattle.description.specs.Format.{le_bytes, opt}
 use Rattle.description.specs.Description.{Library}
-use Rattle.description.specs.Sheet.{edition-one, sheet_bytes, sheet, contents, contents_of, bodies, header}
+use Rattle.description.specs.Sheet.{edition-one, sheet_bytes, sheet_layout, contents, contents_of, bodies, header}
 
 -- no types, two words of zero, no GUID, no name
 abbrev pub smallest : Library
@@ -18,5 +18,5 @@ pub smallest-sheet : sheet_bytes edition-one smallest
     ∷ 0x00
     ∷ 0x00
     ∷ []
-unfolding sheet_bytes sheet contents contents_of bodies header opt le_bytes
+unfolding sheet_bytes sheet_layout contents contents_of bodies header opt le_bytes
 smallest-sheet = refl

@@ -1,15 +1,14 @@
 -- Which values fit the formats of `Sheet`: what there is to show of a value, case by case, and of a description.
 -- Assumes nothing.
-use Rattle.std.specs.Prelude.{◌≡◌, refl, List, [], ◌∷◌, map, length}
+use Rattle.std.specs.Prelude.{refl, List, length}
 use Rattle.std.proofs.Math.Option.{Option}
-use Prim.Native.Nat.{ℕ, zero, suc, ◌+◌, ◌^◌, ◌≤◌, ◌<◌}
+use Prim.Native.Nat.{ℕ, zero, suc, ◌^◌, ◌≤◌, ◌<◌}
 use native.Mathlib.Omega.{arith}
-use Rattle.std.proofs.Common.{lit<, length-append}
-use Rattle.std.proofs.lemmas.List.{length-map}
-use Rattle.description.specs.Format.{IfAny, Format, Fits, encode, length-le_bytes, Each, joined, list, counted, opt}
+use Rattle.std.proofs.Common.{lit<}
+use Rattle.description.specs.Format.{IfAny, Format, Fits, Each, list, counted, opt}
 use Rattle.description.specs.Format.IfAny.{missing, found}
-use Rattle.description.specs.Description.{Bytes, Internal, Import, Misplaced, Reference, Dimension, Tree, depth, TypeInfo, Library}
-use Rattle.description.specs.Sheet.{Edition, u16, u32, bit, import, internal, misplaced, reference, dimension, level, nested, tree, type_info, header, contents, contents_of, bodies, sheet, sheet_bytes}
+use Rattle.description.specs.Description.{Bytes, Internal, Import, Misplaced, Reference, Dimension, Tree, depth, Library}
+use Rattle.description.specs.Sheet.{Edition, u16, bit, import, internal, misplaced, reference, dimension, level, nested, tree, type_info, header}
 
 -- ---- fields
 
@@ -98,34 +97,3 @@ pub record Fitting (e : Edition) (d : Library) : Type 0 where
   pub header : Fits header d.header
   pub types : Each (Fits (type_info e (length d.types))) d.types
   pub count : length d.types ≤ e.most_types
-
--- lengths have at least as many bytes as there are
-lengths-room : (ls : List ℕ) → length ls ≤ length (joined u32 ls)
-lengths-room [] = omega arith
-lengths-room (l ∷ ls) = simp (length-append, length-le_bytes) (omega (arith, lengths-room ls))
-
--- values that are short together are short each
-each-short : {A : Type 0} (F : Format A) (most : ℕ) (xs : List A) → length (joined F xs) < most
-    → Each (λ l. l < most) (map (λ x. length (encode F x)) xs)
-each-short F most [] h = tt
-each-short F most (x ∷ xs) h =
-    let l : length (encode F x) + length (joined F xs) < most = simp length-append at h in
-    (omega arith, each-short F most xs (omega arith))
-
--- a description whose fields fit has a sheet, if that is not too long for the lengths in the contents
-pub fitting-fits : (e : Edition) (d : Library) → Fitting e d → length (sheet_bytes e d) < 256 ^ 4 → Fits (sheet e) d
-unfolding sheet sheet_bytes contents contents_of bodies
-fitting-fits e d f short =
-    let F : Format TypeInfo = type_info e (length d.types) in
-    let ls : List ℕ = map (λ t. length (encode F t)) d.types in
-    let l : length (joined u32 ls) + (length (encode header d.header) + length (joined F d.types)) < 256 ^ 4 =
-    omega (arith, simp length-append at short) in
-    let m : length ls ≡ length d.types = length-map d.types (λ t. length (encode F t)) in (
-      ((omega (arith, lengths-room ls), omega (arith, f.count)), (omega arith, (m, each-short F (256 ^ 4) d.types (omega arith)))),
-      ((f.header, (refl, f.types)), refl),
-    )
-
--- and a description that has a sheet has fields that fit
-pub fits-fitting : (e : Edition) (d : Library) → Fits (sheet e) d → Fitting e d
-unfolding sheet contents contents_of bodies
-fits-fitting e d h = record { header = h.1.0.0; types = h.1.0.1.1; count = omega (arith, h.0.0.1) }

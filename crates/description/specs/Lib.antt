@@ -5,6 +5,5 @@ pub mod Fields
 pub mod Sheet
 pub mod ByteLayout
 pub mod Fit
-pub mod Laws
 pub mod Figures
 pub mod Edges

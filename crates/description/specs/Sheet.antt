@@ -11,7 +11,7 @@ use mathlib.Core.HLevel.{Discrete, ×_discrete}
 use Rattle.std.proofs.Math.Option.{Option}
 use mathlib.Core.List.{List, map, List-discrete}
 use Rattle.std.proofs.Math.Decide.{ℕ_discrete}
-use Rattle.description.specs.Format.{Format, encode, decode, unit, never, number, ◌then◌, ◌&◌, via, only, below, prefixed, times, list, octets, counted, end, ◌or◌, sum, opt}
+use Rattle.description.specs.Format.{Layout, Format, encode, unit, never, number, ◌then◌, ◌&◌, via, only, below, prefixed-layout, prefixed-lawful, times, list, octets, counted, end, ◌or◌, sum, opt}
 use Rattle.description.specs.Description.{Bytes, File, own_is_guid, Own, Import, Internal, Misplaced, Reference, Dimension, Tree, Shape, shape_of, Value, Constant, is_constant, VariableValue, Variable, Parameter, Function, ImplType, BaseShape, base_shape_of, Base, TypeInfo, Header, Library}
 use Rattle.description.specs.Description.BaseShape.{absent, parent, impl_types, aliased}
 use Rattle.description.specs.Fields.{file-fields, import-fields, internal-fields, misplaced-fields, dimension-fields, constant-fields, variable-fields, parameter-fields, function-fields, impl_type-fields, type_info-fields, header-fields, library-fields, reference-cases, tree-cases}
@@ -166,17 +166,26 @@ contents_of e d =
     let count : ℕ = length d.types in
     (count, (length (encode header d.header), map (λ t. length (encode (type_info e count) t)) d.types))
 
+-- the bodies of which c are the contents
+abbrev pub bodies_with : Edition → Contents → Format Library
+bodies_with e c = only (λ d. contents_of e d ≡ c) (λ d. contents-discrete (contents_of e d) c) (bodies e c.0)
+
 -- the contents, and the bodies of which they are the contents
-unfoldable pub sheet : Edition → Format Library
-sheet e =
-    prefixed (contents e) (contents_of e)
-    (λ c. only (λ d. contents_of e d ≡ c) (λ d. contents-discrete (contents_of e d) c) (bodies e c.0))
-    (λ c d h. h.1)
+unfoldable pub sheet_layout : Edition → Layout Library
+sheet_layout e = prefixed-layout (contents e) (contents_of e) (bodies_with e)
 
 -- the bytes of a description's sheet
 unfoldable pub sheet_bytes : Edition → Library → List ℕ
-sheet_bytes e d = encode (sheet e) d
+sheet_bytes e d = (sheet_layout e).encode d
 
 -- the description whose sheet begins the bytes, if there is one, and the bytes behind the sheet
 unfoldable pub read_sheet : Edition → List ℕ → Option (Library × List ℕ)
-read_sheet e bs = decode (sheet e) bs
+read_sheet e bs = (sheet_layout e).decode bs
+
+-- THE SHEET: that layout, which is lawful, since the contents are those of the bodies
+unfoldable pub sheet : Edition → Format Library
+unfolding sheet_layout
+sheet e = record {
+  layout = sheet_layout e;
+  lawful = prefixed-lawful (contents e) (contents_of e) (bodies_with e) (λ c d h. h.1);
+}

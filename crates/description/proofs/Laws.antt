@@ -12,21 +12,21 @@ module _ (e : Edition) where
   -- two sheets have one length and equal bytes exactly if their descriptions are equal
   pub sheets-same : {d d' : Library} → Fits (sheet e) d → Fits (sheet e) d'
       → ((length (sheet_bytes e d) ≡ length (sheet_bytes e d')) × (sheet_bytes e d ≡ sheet_bytes e d')) ↔ (d ≡ d')
-  unfolding sheet_bytes
+  unfolding sheet sheet_bytes
   sheets-same h h' = (λ p. (same (sheet e) h h').0 p.1, λ p. (ap (λ x. length (sheet_bytes e x)) p, ap (sheet_bytes e) p))
 
   -- no sheet begins another
   pub sheets-prefix-free : {d d' : Library} (s : List ℕ) → Fits (sheet e) d → Fits (sheet e) d'
       → sheet_bytes e d ++ s ≡ sheet_bytes e d' → (d ≡ d') × (s ≡ [])
-  unfolding sheet_bytes
+  unfolding sheet sheet_bytes
   sheets-prefix-free s h h' p = prefix-free (sheet e) s h h' p
 
   -- a sheet is read back, whatever follows it
   pub sheet-reads : (d : Library) (rest : List ℕ) → Fits (sheet e) d → read_sheet e (sheet_bytes e d ++ rest) ≡ some (d, rest)
-  unfolding sheet_bytes read_sheet
+  unfolding sheet sheet_bytes read_sheet
   sheet-reads = reads (sheet e)
 
   -- nothing but a sheet is read
   pub sheet-only-reads : {d : Library} {bs rest : List ℕ} → read_sheet e bs ≡ some (d, rest) → Fits (sheet e) d × (bs ≡ sheet_bytes e d ++ rest)
-  unfolding sheet_bytes read_sheet
+  unfolding sheet sheet_bytes read_sheet
   sheet-only-reads p = only-reads (sheet e) p

@@ -1,0 +1,3 @@
+-- The laws of sheets, and which descriptions have one.
+pub mod Laws
+pub mod Fit
