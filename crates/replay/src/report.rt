@@ -10,7 +10,7 @@ pub(crate) fn trouble(rt: &HostRuntime, file: &str, what: &str) -> io::Result<()
 
 // That an answer is not the recorded one. The number behind the last answer's is that of the end of
 // the recorded bytes.
-fn difference(rt: &HostRuntime, kind: u8, noted: Difference) -> io::Result<()> {
+pub(crate) fn difference(rt: &HostRuntime, kind: u8, noted: Difference) -> io::Result<()> {
     let item = noted.item;
     let answer = noted.answer;
     print!(rt; "item {item}: ")?;
