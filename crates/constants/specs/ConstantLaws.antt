@@ -1,19 +1,17 @@
 -- Laws of `Constants`. Assumes nothing.
-use Rattle.std.specs.Prelude.{◌≡◌, refl, false, List, [], ◌∷◌, ℕ, ◌+◌, ◌≤◌, ◌<◌, T, eqb, ltb, length}
-use Rattle.std.proofs.Common.{sym, ◌∙◌, ap, arith, ltb→lt}
-use Rattle.std.proofs.Math.Option.{some, none}
-use borrow.Author.Tests.{le-leb, lt-leb, eq-eqb, ne_eqb, eqb-true}
+use Rattle.std.specs.Prelude.{◌≡◌, refl, false, List, [], ◌∷◌, ℕ, ◌+◌, ◌≤◌, T, eqb, ltb, length, ◌<◌}
+use Rattle.std.proofs.Common.{sym, ◌∙◌, arith, ltb→lt, ap}
+use borrow.Author.Tests.{eq-eqb, ne_eqb, eqb-true, le-leb, lt-leb}
 use Rattle.util.specs.Read.{le, read, or_zero, cond-elim, read-zero}
-use Rattle.util.specs.Real.{Real}
 use Rattle.records.specs.declared.types.ConstValue.{ConstValue}
-use Rattle.records.specs.declared.types.ConstValue.TheVariants as const
 use Rattle.records.specs.Answer.{Answer, value, refused, map}
+use Rattle.typelib.specs.declared.TypeLib.{TypeLib}
+use Rattle.constants.specs.Constants.{among, stored_width, text_behind, value_at, constant_of, inline_of, stored_at, const_at}
+use Rattle.records.specs.declared.types.ConstValue.TheVariants as const
 use Rattle.records.specs.AnswerLaws.{when_true, when_false}
 use Rattle.records.specs.Record.{limit}
-use Rattle.typelib.specs.declared.TypeLib.{TypeLib}
 use Rattle.typelib.specs.Tables.{table_place}
 use Rattle.typelib.specs.TableLaws.{lent_fits}
-use Rattle.constants.specs.Constants.{constant_of, inline_of, among, stored_width, text_behind, value_at, stored_at, const_at}
 
 -- a code above the table's has four bytes
 pub width-beyond : (vt : ℕ) → 65 ≤ vt → stored_width vt ≡ 4
@@ -38,15 +36,13 @@ number_is w k vt s at r h e i o =
     let x : stored_width vt ≡ w = sym e ∙ h in
     rw x (read-zero w s at r (rw x at i) o)
 
--- ---- a float that was read
+-- a text's value
+module _ (s : List ℕ) (lib : TypeLib) (offset vt at : ℕ) where
+  pub value-text : (a : Answer ConstValue) → vt ≡ 8 → a ≡ text_behind s lib offset (le 4 s at) → a ≡ value_at s lib offset vt at
+  unfolding value_at
+  value-text a h e = rw (eq-eqb vt 8 h) e
 
-pub real-is : {x y : Real} → some x ≡ some y → x ≡ y
-real-is e = cc
-
-pub real-never : {X : Type 0} {y : Real} → none ≡ some y → X
-real-never e = let z : ◌≡◌ {A = ℕ} 0 1 = cc in absurd (omega arith)
-
--- ---- a text, a case each
+-- ---- the same by cases
 
 module _ (s : List ℕ) (lib : TypeLib) (offset n : ℕ) where
   pub text-null : n ≡ 0xffffffff → value const.NullBstr ≡ text_behind s lib offset n
@@ -61,13 +57,7 @@ module _ (s : List ℕ) (lib : TypeLib) (offset n : ℕ) where
   unfolding text_behind
   text-there a h k e = rw (ne_eqb n 0xffffffff h, lt-leb 0x80000000 n k) e
 
--- ---- a value by its code, a case each
-
 module _ (s : List ℕ) (lib : TypeLib) (offset vt at : ℕ) where
-  pub value-text : (a : Answer ConstValue) → vt ≡ 8 → a ≡ text_behind s lib offset (le 4 s at) → a ≡ value_at s lib offset vt at
-  unfolding value_at
-  value-text a h e = rw (eq-eqb vt 8 h) e
-
   pub value-decimal : vt ≡ 14 → value (const.Decimal (record { at = at; len = 16 })) ≡ value_at s lib offset vt at
   unfolding value_at
   value-decimal h = rw h
@@ -75,8 +65,6 @@ module _ (s : List ℕ) (lib : TypeLib) (offset vt at : ℕ) where
   pub value-number : (v : ConstValue) → (vt ≡ 8 → ⊥) → (vt ≡ 14 → ⊥) → v ≡ constant_of vt (le (stored_width vt) s at) → value v ≡ value_at s lib offset vt at
   unfolding value_at
   value-number v h k e = rw (ne_eqb vt 8 h, ne_eqb vt 14 k) (ap value e)
-
--- ---- a word, a case each
 
 module _ (s : List ℕ) (lib : TypeLib) (word : ℕ) where
   pub const-inline : (v : ConstValue) → length s ≤ limit → 0x80000000 ≤ word → v ≡ inline_of word → value v ≡ const_at s lib word

@@ -1,10 +1,12 @@
 -- Constants (document 01, `const_value`). The codes are VARENUM's. Assumes nothing.
-use Rattle.std.specs.Prelude.{Bool, true, false, cond, not, List, [], ◌∷◌, ℕ, ◌+◌, ◌%◌, ◌^◌, eqb}
+use Rattle.std.specs.Prelude.{Bool, Float, true, false, cond, not, List, [], ◌∷◌, ℕ, ◌+◌, ◌%◌, ◌^◌, eqb}
 use Rattle.std.specs.Float.{binary32, binary64}
 use Rattle.std.specs.Int.{w8, w16, w32, w64}
 use Rattle.std.proofs.Common.{to_z}
 use Rattle.util.specs.Read.{le}
-use Rattle.util.specs.Real.{Real, number, nan, real_of}
+use Rattle.util.specs.declared.Real.{Real}
+use Rattle.util.specs.declared.Real.TheVariants.{Number, Nan}
+use Rattle.util.specs.Real.{real_of}
 use Rattle.records.specs.declared.types.ConstValue.{ConstValue}
 use Rattle.records.specs.declared.types.ConstValue.TheVariants as const
 use Rattle.records.specs.Answer.{Answer, value, refused, map, bind}
@@ -34,17 +36,17 @@ abbrev pub low : ℕ → ℕ → ℕ
 low k v = v % 2 ^ k
 
 -- floats by their bits
-abbrev pub r4_as : Real → ConstValue
-r4_as (number x) = const.R4 x
-r4_as (nan n) = const.R4Nan n
+abbrev pub r4_as : Real Float ℕ → ConstValue
+r4_as (Number x) = const.R4 x
+r4_as (Nan n) = const.R4Nan n
 
-abbrev pub r8_as : Real → ConstValue
-r8_as (number x) = const.R8 x
-r8_as (nan n) = const.R8Nan n
+abbrev pub r8_as : Real Float ℕ → ConstValue
+r8_as (Number x) = const.R8 x
+r8_as (Nan n) = const.R8Nan n
 
-abbrev pub date_as : Real → ConstValue
-date_as (number x) = const.Date x
-date_as (nan n) = const.DateNan n
+abbrev pub date_as : Real Float ℕ → ConstValue
+date_as (Number x) = const.Date x
+date_as (Nan n) = const.DateNan n
 
 abbrev pub r4_of : ℕ → ConstValue
 r4_of n = r4_as (real_of binary32 n)

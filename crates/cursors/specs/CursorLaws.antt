@@ -1,9 +1,8 @@
 -- Laws of `Cursors`, a case each. Assumes nothing.
-use Rattle.std.specs.Prelude.{◌≡◌, refl, Bool, true, false, cond, List, ℕ, suc, ◌+◌, ◌-◌, ◌*◌, ◌/◌, ◌%◌, ◌^◌, ◌≤◌, ◌<◌, leb, ltb, eqb, length}
+use Rattle.std.specs.Prelude.{◌≡◌, refl, Bool, true, false, cond, List, ℕ, suc, ◌+◌, ◌-◌, ◌*◌, ◌/◌, ◌%◌, ◌^◌, ◌≤◌, ◌<◌, leb, ltb, eqb, length, Option, Some, None}
 use Rattle.std.proofs.Common.{◌∙◌, ap, arith}
-use Rattle.std.proofs.Math.Option.{Option, some, none}
 use borrow.Author.Tests.{le-leb, lt-leb, le-ltb, lt-ltb, eq-eqb, ne_eqb, ltb-false, eqb-false}
-use Rattle.util.specs.Read.{le, read, cond-elim}
+use Rattle.util.specs.Read.{le, read, cond-elim, some_read}
 use Rattle.records.specs.declared.answer.Place.{Place}
 use Rattle.records.specs.Answer.{Answer, value, refused, bind}
 use Rattle.records.specs.Record.{limit}
@@ -12,45 +11,6 @@ use Rattle.typelib.specs.Tables.{lent, in_table}
 use Rattle.cursors.specs.Cursors.{BlockAt, size_at, record_at, block_from, block_with, skip, fixed_at, param_cursor, param_at}
 
 -- ---- records that carry their length
-
-module _ (s : List ℕ) (pos end remaining least : ℕ) where
-  pub record-none : remaining ≡ 0 → refused 9 ≡ record_at s pos end remaining least
-  unfolding record_at
-  record-none h = rw (eq-eqb remaining 0 h)
-
-  pub record-past : (remaining ≡ 0 → ⊥) → end ≤ pos → refused 9 ≡ record_at s pos end remaining least
-  unfolding record_at
-  record-past h k = rw (ne_eqb remaining 0 h, le-leb end pos k)
-
-  pub record-cut : (remaining ≡ 0 → ⊥) → pos < end → length s < pos + 4 → refused 9 ≡ record_at s pos end remaining least
-  unfolding record_at
-  record-cut h k l = rw (ne_eqb remaining 0 h, lt-leb end pos k, lt-ltb (length s) (pos + 4) l)
-
-  pub record-small : (remaining ≡ 0 → ⊥) → pos < end → pos + 4 ≤ length s → size_at s pos < least → refused 9 ≡ record_at s pos end remaining least
-  unfolding record_at
-  record-small h k l m = rw (ne_eqb remaining 0 h, lt-leb end pos k, le-ltb (length s) (pos + 4) l, lt-ltb (size_at s pos) least m)
-
-  pub record-long : (remaining ≡ 0 → ⊥) → pos < end → pos + 4 ≤ length s → least ≤ size_at s pos → length s < pos + size_at s pos → refused 9 ≡ record_at s pos end remaining least
-  unfolding record_at
-  record-long h k l m n =
-      rw (
-        ne_eqb remaining 0 h,
-        lt-leb end pos k,
-        le-ltb (length s) (pos + 4) l,
-        le-ltb (size_at s pos) least m,
-        lt-ltb (length s) (pos + size_at s pos) n,
-      )
-
-  pub record-there : (remaining ≡ 0 → ⊥) → pos < end → pos + 4 ≤ length s → least ≤ size_at s pos → pos + size_at s pos ≤ length s → value (size_at s pos) ≡ record_at s pos end remaining least
-  unfolding record_at
-  record-there h k l m n =
-      rw (
-        ne_eqb remaining 0 h,
-        lt-leb end pos k,
-        le-ltb (length s) (pos + 4) l,
-        le-ltb (size_at s pos) least m,
-        le-ltb (length s) (pos + size_at s pos) n,
-      )
 
 -- what a record that was found tells
 pub record Recorded (s : List ℕ) (pos end remaining least n : ℕ) : Type 0 where
@@ -129,9 +89,15 @@ pub param-some : (s : List ℕ) (d : BlockAt) → (d.remaining ≡ 0 → ⊥) �
 unfolding param_at
 param-some s d h = rw (ne_eqb d.remaining 0 h)
 
--- the length of a record, as the code takes it
-pub size_is : (s : List ℕ) (pos info r : ℕ) → info ≡ le 4 s pos → r ≡ info / 2 ^ 0 % 2 ^ 16 → r ≡ size_at s pos
-size_is s pos info r e h = h ∙ ap (λ (n : ℕ). n / 2 ^ 0 % 2 ^ 16) e
+-- the length of a record, as the code takes it from the word at pos
+pub record Sized (s : List ℕ) (pos size : ℕ) : Type 0 where
+  pub inside : pos + 4 ≤ length s
+  pub is : size ≡ size_at s pos
+
+pub sized : (s : List ℕ) (pos info size : ℕ) → Some info ≡ read 4 s pos → size ≡ info / 2 ^ 0 % 2 ^ 16 → Sized s pos size
+sized s pos info size e h =
+    let w = some_read 4 s pos info e in
+    record { inside = w.inside; is = h ∙ ap (λ (n : ℕ). n / 2 ^ 0 % 2 ^ 16) w.is }
 
 -- ---- values and refusals behind the test for over-long bytes
 
@@ -178,31 +144,23 @@ param s d p e =
 -- ---- blocks
 
 module _ (s : List ℕ) (memoffset count : ℕ) where
-  pub block-negative : 0x80000000 ≤ memoffset → none ≡ block_with s memoffset count
+  pub block-negative : 0x80000000 ≤ memoffset → None ≡ block_with s memoffset count
   unfolding block_with
   block-negative h = rw (le-leb 0x80000000 memoffset h)
 
-  pub block-empty : memoffset < 0x80000000 → count ≡ 0 → none ≡ block_with s memoffset count
-  unfolding block_with
-  block-empty h z = rw (lt-leb 0x80000000 memoffset h, eq-eqb count 0 z)
-
-  pub block-there : (o : Option ℕ) → memoffset < 0x80000000 → (count ≡ 0 → ⊥) → o ≡ read 4 s memoffset → block_from memoffset o ≡ block_with s memoffset count
-  unfolding block_with
-  block-there o h z e = rw (lt-leb 0x80000000 memoffset h, ne_eqb count 0 z) (ap (block_from memoffset) e)
-
 -- a turn of the skip
-pub skip-cut : (n : ℕ) (s : List ℕ) (pos : ℕ) → 0 < n → length s < pos + 4 → none ≡ skip n s pos
+pub skip-cut : (n : ℕ) (s : List ℕ) (pos : ℕ) → 0 < n → length s < pos + 4 → None ≡ skip n s pos
 unfolding skip
 skip-cut n s pos h k =
     let e : suc (n - 1) ≡ n = omega arith in
-    let f : none ≡ skip (suc (n - 1)) s pos = rw (lt-ltb (length s) (pos + 4) k) in
+    let f : None ≡ skip (suc (n - 1)) s pos = rw (lt-ltb (length s) (pos + 4) k) in
     f ∙ ap (λ (m : ℕ). skip m s pos) e
 
-pub skip-zero : (n : ℕ) (s : List ℕ) (pos : ℕ) → 0 < n → pos + 4 ≤ length s → size_at s pos ≡ 0 → some pos ≡ skip n s pos
+pub skip-zero : (n : ℕ) (s : List ℕ) (pos : ℕ) → 0 < n → pos + 4 ≤ length s → size_at s pos ≡ 0 → Some pos ≡ skip n s pos
 unfolding skip
 skip-zero n s pos h k z =
     let e : suc (n - 1) ≡ n = omega arith in
-    let f : some pos ≡ skip (suc (n - 1)) s pos = rw (le-ltb (length s) (pos + 4) k, eq-eqb (size_at s pos) 0 z) in
+    let f : Some pos ≡ skip (suc (n - 1)) s pos = rw (le-ltb (length s) (pos + 4) k, eq-eqb (size_at s pos) 0 z) in
     f ∙ ap (λ (m : ℕ). skip m s pos) e
 
 pub skip-on : (n : ℕ) (s : List ℕ) (pos : ℕ) → 0 < n → pos + 4 ≤ length s → (size_at s pos ≡ 0 → ⊥) → skip (n - 1) s (pos + size_at s pos) ≡ skip n s pos
@@ -212,11 +170,63 @@ skip-on n s pos h k z =
     let f : skip (n - 1) s (pos + size_at s pos) ≡ skip (suc (n - 1)) s pos = rw (le-ltb (length s) (pos + 4) k, ne_eqb (size_at s pos) 0 z) in
     f ∙ ap (λ (m : ℕ). skip m s pos) e
 
-pub skip-done : (s : List ℕ) (pos : ℕ) → some pos ≡ skip 0 s pos
+pub skip-done : (s : List ℕ) (pos : ℕ) → Some pos ≡ skip 0 s pos
 unfolding skip
 skip-done s pos = refl
 
--- ---- the parameters' cursor
+-- ---- the same by cases
+
+module _ (s : List ℕ) (pos end remaining least : ℕ) where
+  pub record-none : remaining ≡ 0 → refused 9 ≡ record_at s pos end remaining least
+  unfolding record_at
+  record-none h = rw (eq-eqb remaining 0 h)
+
+  pub record-past : (remaining ≡ 0 → ⊥) → end ≤ pos → refused 9 ≡ record_at s pos end remaining least
+  unfolding record_at
+  record-past h k = rw (ne_eqb remaining 0 h, le-leb end pos k)
+
+  pub record-cut : (remaining ≡ 0 → ⊥) → pos < end → length s < pos + 4 → refused 9 ≡ record_at s pos end remaining least
+  unfolding record_at
+  record-cut h k l = rw (ne_eqb remaining 0 h, lt-leb end pos k, lt-ltb (length s) (pos + 4) l)
+
+  pub record-small : (remaining ≡ 0 → ⊥) → pos < end → pos + 4 ≤ length s → size_at s pos < least → refused 9 ≡ record_at s pos end remaining least
+  unfolding record_at
+  record-small h k l m = rw (ne_eqb remaining 0 h, lt-leb end pos k, le-ltb (length s) (pos + 4) l, lt-ltb (size_at s pos) least m)
+
+  pub record-long : (remaining ≡ 0 → ⊥) → pos < end → pos + 4 ≤ length s → least ≤ size_at s pos → length s < pos + size_at s pos → refused 9 ≡ record_at s pos end remaining least
+  unfolding record_at
+  record-long h k l m n =
+      rw (
+        ne_eqb remaining 0 h,
+        lt-leb end pos k,
+        le-ltb (length s) (pos + 4) l,
+        le-ltb (size_at s pos) least m,
+        lt-ltb (length s) (pos + size_at s pos) n,
+      )
+
+  pub record-there : (remaining ≡ 0 → ⊥) → pos < end → pos + 4 ≤ length s → least ≤ size_at s pos → pos + size_at s pos ≤ length s → value (size_at s pos) ≡ record_at s pos end remaining least
+  unfolding record_at
+  record-there h k l m n =
+      rw (
+        ne_eqb remaining 0 h,
+        lt-leb end pos k,
+        le-ltb (length s) (pos + 4) l,
+        le-ltb (size_at s pos) least m,
+        le-ltb (length s) (pos + size_at s pos) n,
+      )
+
+-- the length of a record, as the code takes it
+pub size_is : (s : List ℕ) (pos info r : ℕ) → info ≡ le 4 s pos → r ≡ info / 2 ^ 0 % 2 ^ 16 → r ≡ size_at s pos
+size_is s pos info r e h = h ∙ ap (λ (n : ℕ). n / 2 ^ 0 % 2 ^ 16) e
+
+module _ (s : List ℕ) (memoffset count : ℕ) where
+  pub block-empty : memoffset < 0x80000000 → count ≡ 0 → None ≡ block_with s memoffset count
+  unfolding block_with
+  block-empty h z = rw (lt-leb 0x80000000 memoffset h, eq-eqb count 0 z)
+
+  pub block-there : (o : Option ℕ) → memoffset < 0x80000000 → (count ≡ 0 → ⊥) → o ≡ read 4 s memoffset → block_from memoffset o ≡ block_with s memoffset count
+  unfolding block_with
+  block-there o h z e = rw (lt-leb 0x80000000 memoffset h, ne_eqb count 0 z) (ap (block_from memoffset) e)
 
 pub params_none : (r : Place) (n : ℕ) → r.len < 12 * n → record { pos = 0; end = 0; remaining = 0; yielded = 0 } ≡ param_cursor r n
 unfolding param_cursor

@@ -1,6 +1,5 @@
 -- What a cursor yields in one step, as one `next` of the source's iterators, with its number (document 02, §10). Assumes nothing.
-use Rattle.std.specs.Prelude.{refl, cond, List, ℕ, zero, suc, ◌+◌, ◌-◌, ◌*◌, leb, ltb, eqb, length}
-use Rattle.std.proofs.Math.Option.{Option, some, none}
+use Rattle.std.specs.Prelude.{refl, cond, List, ℕ, zero, suc, ◌+◌, ◌-◌, ◌*◌, leb, ltb, eqb, length, Option, Some, None}
 use Rattle.util.specs.Read.{le, read}
 use Rattle.records.specs.declared.answer.Place.{Place}
 use Rattle.member_records.specs.declared.func.FuncRecord.{FuncRecord}
@@ -92,17 +91,17 @@ var_step s = with_number over_vars (block_next (size_of var_record) s)
 
 -- the block at a memoffset, if it has one and anything is declared: its first record, and its end
 abbrev pub block_from : ℕ → Option ℕ → Option Place
-block_from memoffset none = none
-block_from memoffset (some size) = some (record { at = memoffset + 4; len = size })
+block_from memoffset None = None
+block_from memoffset (Some size) = Some (record { at = memoffset + 4; len = size })
 
 unfoldable pub block_with : List ℕ → ℕ → ℕ → Option Place
 block_with s memoffset count =
-    cond (negative memoffset) none
-    (cond (eqb count 0) none (block_from memoffset (read 4 s memoffset)))
+    cond (negative memoffset) None
+    (cond (eqb count 0) None (block_from memoffset (read 4 s memoffset)))
 
 abbrev pub func_cursor : ℕ → Option Place → FuncCursor
-func_cursor count none = record { pos = 0; end = 0; remaining = 0; yielded = 0 }
-func_cursor count (some b) = record { pos = b.at; end = b.at + b.len; remaining = count; yielded = 0 }
+func_cursor count None = record { pos = 0; end = 0; remaining = 0; yielded = 0 }
+func_cursor count (Some b) = record { pos = b.at; end = b.at + b.len; remaining = count; yielded = 0 }
 
 abbrev pub funcs_of : List ℕ → TypeInfoEntry → Answer FuncCursor
 funcs_of s ti =
@@ -111,18 +110,18 @@ funcs_of s ti =
 
 -- Past the function records by their sizes alone: a size of 0 ends the skip; nothing where a size word is past the file.
 unfoldable pub skip : ℕ → List ℕ → ℕ → Option ℕ
-skip zero s pos = some pos
+skip zero s pos = Some pos
 skip (suc n) s pos =
-    cond (ltb (length s) (pos + 4)) none
-    (cond (eqb (size_at s pos) 0) (some pos) (skip n s (pos + size_at s pos)))
+    cond (ltb (length s) (pos + 4)) None
+    (cond (eqb (size_at s pos) 0) (Some pos) (skip n s (pos + size_at s pos)))
 
 abbrev pub vars_from : ℕ → ℕ → Option ℕ → VarCursor
-vars_from end count none = record { pos = 0; end = 0; remaining = 0; yielded = 0 }
-vars_from end count (some pos) = record { pos = pos; end = end; remaining = count; yielded = 0 }
+vars_from end count None = record { pos = 0; end = 0; remaining = 0; yielded = 0 }
+vars_from end count (Some pos) = record { pos = pos; end = end; remaining = count; yielded = 0 }
 
 abbrev pub var_cursor : List ℕ → Counts → Option Place → VarCursor
-var_cursor s c none = record { pos = 0; end = 0; remaining = 0; yielded = 0 }
-var_cursor s c (some b) = vars_from (b.at + b.len) c.vars (skip c.funcs s b.at)
+var_cursor s c None = record { pos = 0; end = 0; remaining = 0; yielded = 0 }
+var_cursor s c (Some b) = vars_from (b.at + b.len) c.vars (skip c.funcs s b.at)
 
 abbrev pub vars_of : List ℕ → TypeInfoEntry → Answer VarCursor
 vars_of s ti =

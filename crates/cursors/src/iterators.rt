@@ -2,29 +2,37 @@
 // source. (Those over tables are in `table_cursors`.)
 //
 // A cursor goes in by value and comes back. One step replies as one `next` of the source: the record,
-// its number from 0 and the next cursor, or a refusal and the same cursor. 9 is the end.
+// its number from 0 and the next cursor, or a refusal and the same cursor. NothingThere is the end.
+// The lent bytes stand beside it and beside a record: C keeps both as numbers from one call to the next, and lends the bytes anew.
 ghost use Rattle.std.specs.Prelude.{◌≡◌, ◌+◌, ◌^◌, ◌<◌};
-ghost use Rattle.records.specs.Told.{told_place, told_usize};
-ghost use Rattle.cursors.specs.Cursors.{record_at, func_step, var_step, block_with, func_cursor, funcs_of, skip, vars_from, var_cursor, vars_of, fixed_at, param_cursor, params_of, over_params, param_at, param_step};
+ghost use Rattle.std.specs.Option.{IfSome};
+ghost use Rattle.records.specs.Answer.{value};
+ghost use Rattle.records.specs.Told.{told};
+ghost use Rattle.cursors.specs.Cursors.{record_at, func_step, var_step, block_with, func_cursor, funcs_of, skip, var_cursor, vars_of, fixed_at, param_cursor, params_of, over_params, param_at, param_step};
 ghost use Rattle.cursors.specs.Numbers.{number_of};
 ghost use Rattle.typelib.specs.Tables.{lent};
-ghost use Rattle.cursors.specs.Told.{told_funcs, told_func_step, told_vars, told_var_step, told_params, told_param_step, told_block, told_skip};
+ghost use Rattle.cursors.specs.Told.{told_func_step, told_var_step, told_param_step};
 
 use member_records::func::FuncRecord;
 use member_records::param::ParameterInfo;
 use member_records::var::VarRecord;
-use records::answer::{Place, PlaceAnswer, U16Answer, U32Answer, UsizeAnswer};
-use records::field;
-use records::field::LIMIT;
+use records::answer::{Place, Refusal};
+use records::field::{LIMIT, Record};
 use records::typeinfo::TypeInfoEntry;
 use typelib::tables;
-use typelib::typeinfos::{Counts, CountsAnswer};
-use util::NEGATIVE;
+use typelib::typeinfos::Counts;
+use util::{LittleEndian, NEGATIVE};
 
-// The largest number that a record is given.
-const LARGEST: u64 = 0xFFFF_FFFF_FFFF_FFFF;
-
+// One step of a cursor: the record, its number from 0 and the next cursor; or why there is none, and the cursor to go on with.
+// (No `Result`: the cursor comes back either way.)
 #[derive(Clone, Copy)]
+pub enum Step<R, C> {
+    Record(R, u64, C),
+    Refused(Refusal, C),
+}
+
+// (Three types with the same fields, as records are told apart by their types: C builds each from its numbers, and contracts name the fields.)
+#[derive(Clone, Copy, Default)]
 pub struct FuncCursor {
     pub pos: usize,
     pub end: usize,
@@ -32,19 +40,7 @@ pub struct FuncCursor {
     pub yielded: u64,
 }
 
-#[derive(Clone, Copy)]
-pub enum FuncStep {
-    Record(FuncRecord, u64, FuncCursor),
-    Refused(u8, FuncCursor),
-}
-
-#[derive(Clone, Copy)]
-pub enum FuncsAnswer {
-    Value(FuncCursor),
-    Refused(u8),
-}
-
-#[derive(Clone, Copy)]
+#[derive(Clone, Copy, Default)]
 pub struct VarCursor {
     pub pos: usize,
     pub end: usize,
@@ -52,19 +48,7 @@ pub struct VarCursor {
     pub yielded: u64,
 }
 
-#[derive(Clone, Copy)]
-pub enum VarStep {
-    Record(VarRecord, u64, VarCursor),
-    Refused(u8, VarCursor),
-}
-
-#[derive(Clone, Copy)]
-pub enum VarsAnswer {
-    Value(VarCursor),
-    Refused(u8),
-}
-
-#[derive(Clone, Copy)]
+#[derive(Clone, Copy, Default)]
 pub struct ParamCursor {
     pub pos: usize,
     pub end: usize,
@@ -72,88 +56,54 @@ pub struct ParamCursor {
     pub yielded: u64,
 }
 
-#[derive(Clone, Copy)]
-pub enum ParamStep {
-    Record(ParameterInfo, u64, ParamCursor),
-    Refused(u8, ParamCursor),
-}
-
-#[derive(Clone, Copy)]
-pub enum ParamsAnswer {
-    Value(ParamCursor),
-    Refused(u8),
-}
-
-// A place behind the function records; or none, where a size word is past the file.
-#[derive(Clone, Copy)]
-pub enum Skipped {
-    At(usize),
-    Nothing,
-}
-
-// The offset and the size of a block that has one and declares something.
-#[derive(Clone, Copy)]
-pub enum Block {
-    Some(u32, u32),
-    Nothing,
-}
-
 // The function records of a typeinfo.
-pub fn funcs(s: &[u8], ti: TypeInfoEntry) -> FuncsAnswer
-    ensures { told_funcs result ≡ funcs_of s.now ti }
+// (`vars` and `params` are readings of their own by the source; what they share is below.)
+pub fn funcs(s: &[u8], ti: TypeInfoEntry) -> Result<FuncCursor, Refusal>
+    ensures { told result ≡ funcs_of s.now ti }
 {
-    match field::field_u32(s, ti.at, ti.len, 0x64, 0x04) {
-        U32Answer::Value(memoffset) => match typelib::typeinfos::declared_counts(s, ti) {
-            CountsAnswer::Value(c) => FuncsAnswer::Value(func_cursor(s, memoffset, c.funcs)),
-            CountsAnswer::Refused(n) => FuncsAnswer::Refused(n),
-        },
-        U32Answer::Refused(n) => FuncsAnswer::Refused(n),
-    }
+    let memoffset = ti.field(s, 0x04)?;
+    let c = typelib::typeinfos::declared_counts(s, ti)?;
+    Ok(func_cursor(s, memoffset, c.funcs))
 }
 
 // The variable records of a typeinfo, behind its function records.
-pub fn vars(s: &[u8], ti: TypeInfoEntry) -> VarsAnswer
-    ensures { told_vars result ≡ vars_of s.now ti }
+pub fn vars(s: &[u8], ti: TypeInfoEntry) -> Result<VarCursor, Refusal>
+    ensures { told result ≡ vars_of s.now ti }
 {
-    match field::field_u32(s, ti.at, ti.len, 0x64, 0x04) {
-        U32Answer::Value(memoffset) => match typelib::typeinfos::declared_counts(s, ti) {
-            CountsAnswer::Value(c) => VarsAnswer::Value(var_cursor(s, memoffset, c)),
-            CountsAnswer::Refused(n) => VarsAnswer::Refused(n),
-        },
-        U32Answer::Refused(n) => VarsAnswer::Refused(n),
-    }
+    let memoffset = ti.field(s, 0x04)?;
+    let c = typelib::typeinfos::declared_counts(s, ti)?;
+    Ok(var_cursor(s, memoffset, c))
 }
 
 // The parameters of a function, at the end of its record.
-pub fn params(s: &[u8], func: FuncRecord) -> ParamsAnswer
-    ensures { told_params result ≡ params_of s.now func }
+pub fn params(s: &[u8], func: FuncRecord) -> Result<ParamCursor, Refusal>
+    ensures { told result ≡ params_of s.now func }
 {
-    match func.as_bytes(s) {
-        PlaceAnswer::Value(place) => match func.argument_count(s) {
-            U16Answer::Value(count) => ParamsAnswer::Value(param_cursor(place, count)),
-            U16Answer::Refused(n) => ParamsAnswer::Refused(n),
-        },
-        PlaceAnswer::Refused(n) => ParamsAnswer::Refused(n),
-    }
+    let place = func.as_bytes(s)?;
+    let count = func.argument_count(s)?;
+    Ok(param_cursor(place, count))
 }
 
+// The steps of the three cursors differ in the types that they make, which C and the contracts name: a trait over those types
+// has more lines than the steps, whose tests are `record_at` and `fixed_at`. (`step` and `size_hint` are readings of each by the source.)
+// (A refusal goes out with its cursor, so that `?` cannot hand it on. A record is made of a place field by field: a conversion for each of the
+// types of records has more lines than it saves.)
 impl FuncCursor {
-    pub fn step(self, s: &[u8]) -> FuncStep
+    pub fn step(self, s: &[u8]) -> Step<FuncRecord, FuncCursor>
         ensures { told_func_step result ≡ func_step s.now self }
     {
-        let pos = self.pos;
-        match record_at(s, pos, self.end, self.remaining, FuncRecord::BASE_SIZE) {
-            UsizeAnswer::Value(len) => FuncStep::Record(
-                FuncRecord { at: pos, len },
+        match record_at(s, self.pos, self.end, self.remaining, FuncRecord::BASE_SIZE) {
+            Ok(len) => Step::Record(
+                FuncRecord { at: self.pos, len },
                 self.yielded,
                 FuncCursor {
-                    pos: pos + len,
-                    end: self.end,
+                    pos: self.pos + len,
                     remaining: self.remaining - 1,
                     yielded: number_behind(self.yielded),
+                    ..self
                 },
             ),
-            UsizeAnswer::Refused(n) => FuncStep::Refused(n, self),
+            Err(refusal) => Step::Refused(refusal, self),
         }
     }
 
@@ -166,22 +116,21 @@ impl FuncCursor {
 }
 
 impl VarCursor {
-    pub fn step(self, s: &[u8]) -> VarStep
+    pub fn step(self, s: &[u8]) -> Step<VarRecord, VarCursor>
         ensures { told_var_step result ≡ var_step s.now self }
     {
-        let pos = self.pos;
-        match record_at(s, pos, self.end, self.remaining, VarRecord::BASE_SIZE) {
-            UsizeAnswer::Value(len) => VarStep::Record(
-                VarRecord { at: pos, len },
+        match record_at(s, self.pos, self.end, self.remaining, VarRecord::BASE_SIZE) {
+            Ok(len) => Step::Record(
+                VarRecord { at: self.pos, len },
                 self.yielded,
                 VarCursor {
-                    pos: pos + len,
-                    end: self.end,
+                    pos: self.pos + len,
                     remaining: self.remaining - 1,
                     yielded: number_behind(self.yielded),
+                    ..self
                 },
             ),
-            UsizeAnswer::Refused(n) => VarStep::Refused(n, self),
+            Err(refusal) => Step::Refused(refusal, self),
         }
     }
 
@@ -194,25 +143,24 @@ impl VarCursor {
 }
 
 impl ParamCursor {
-    pub fn step(self, s: &[u8]) -> ParamStep
+    pub fn step(self, s: &[u8]) -> Step<ParameterInfo, ParamCursor>
         ensures { told_param_step result ≡ param_step s.now self }
     {
-        let pos = self.pos;
         match param_at(s, self) {
-            PlaceAnswer::Value(place) => ParamStep::Record(
+            Ok(place) => Step::Record(
                 ParameterInfo {
                     at: place.at,
                     len: place.len,
                 },
                 self.yielded,
                 ParamCursor {
-                    pos: pos + ParameterInfo::SIZE,
-                    end: self.end,
+                    pos: self.pos + ParameterInfo::SIZE,
                     remaining: self.remaining - 1,
                     yielded: number_behind(self.yielded),
+                    ..self
                 },
             ),
-            PlaceAnswer::Refused(n) => ParamStep::Refused(n, self),
+            Err(refusal) => Step::Refused(refusal, self),
         }
     }
 
@@ -225,164 +173,147 @@ impl ParamCursor {
 }
 
 // How many records a cursor has yielded, once it has yielded one more than `yielded`: it stops at the largest number. It serves
-// every cursor but the one over typeinfos, whose index is its number.
+// every cursor but the one over typeinfos, whose index is its number. (One call of the library, under the name that contracts have for it.)
+#[tactic(auto, unfolding(crate::specs::Numbers::number_of))]
 pub fn number_behind(yielded: u64) -> u64
     ensures { result ≡ number_of (yielded + 1) }
 {
-    if yielded == LARGEST {
-        return LARGEST;
+    yielded.saturating_add(1)
+}
+
+// Whether the bytes are few enough to be read.
+#[tactic(auto, unfolding(typelib::specs::Tables::lent))]
+pub fn is_lent(s: &[u8]) -> Result<(), Refusal>
+    ensures { told result ≡ lent s.now (value tt) }
+{
+    if LIMIT < s.len() {
+        return Err(Refusal::OverLong);
     }
-    yielded + 1
+    Ok(())
 }
 
 // The length of the record at `pos`: the one test of the records of a block.
-fn record_at(s: &[u8], pos: usize, end: usize, remaining: usize, least: usize) -> UsizeAnswer
-    ensures { told_usize result ≡ lent s.now (record_at s.now pos end remaining least) }
+#[tactic(auto, unfolding(typelib::specs::Tables::lent, crate::specs::Cursors::record_at))]
+fn record_at(
+    s: &[u8],
+    pos: usize,
+    end: usize,
+    remaining: usize,
+    least: usize,
+) -> Result<usize, Refusal>
+    ensures { told result ≡ lent s.now (record_at s.now pos end remaining least) }
 {
-    if LIMIT < s.len() {
-        return UsizeAnswer::Refused(1);
-    }
+    is_lent(s)?;
     if remaining == 0 {
-        return UsizeAnswer::Refused(9);
+        return Err(Refusal::NothingThere);
     }
     if end <= pos {
-        return UsizeAnswer::Refused(9);
+        return Err(Refusal::NothingThere);
     }
-    let util::U32Read::Value(info) = util::read_u32_le(s, pos) else {
-        return UsizeAnswer::Refused(9);
-    };
+    let info = u32::read_le(s, pos).ok_or(Refusal::NothingThere)?;
     let size = util::bits(info, 0, 16) as usize;
     if size < least {
-        return UsizeAnswer::Refused(9);
+        return Err(Refusal::NothingThere);
     }
     let room = s.len() - pos;
     if room < size {
-        return UsizeAnswer::Refused(9);
+        return Err(Refusal::NothingThere);
     }
-    UsizeAnswer::Value(size)
+    Ok(size)
 }
 
 // The record of `size` bytes at `pos`, in a table or a function's record that ends at `end`: the one test of the records of one size.
-// It serves the cursors over tables, too.
-pub fn fixed_at(s: &[u8], pos: usize, end: usize, size: usize) -> PlaceAnswer
-    ensures { told_place result ≡ lent s.now (fixed_at s.now pos end size) }
+// It serves the cursors over tables, too. (`size` is how many bytes are asked for, and not the length of the lent ones.)
+#[tactic(auto, unfolding(typelib::specs::Tables::lent, crate::specs::Cursors::fixed_at))]
+pub fn fixed_at(s: &[u8], pos: usize, end: usize, size: usize) -> Result<Place, Refusal>
+    ensures { told result ≡ lent s.now (fixed_at s.now pos end size) }
 {
-    if LIMIT < s.len() {
-        return PlaceAnswer::Refused(1);
-    }
+    is_lent(s)?;
     if tables::in_table(s, Place { at: 0, len: end }, pos, size) {
-        return PlaceAnswer::Value(Place { at: pos, len: size });
+        return Ok(Place { at: pos, len: size });
     }
-    PlaceAnswer::Refused(9)
+    Err(Refusal::NothingThere)
 }
 
-fn param_at(s: &[u8], cursor: ParamCursor) -> PlaceAnswer
-    ensures { told_place result ≡ lent s.now (param_at s.now (over_params.stands cursor)) }
+// (The first test stands in the sheet's traversals, too: there it replies a place of the output, and no refusal.)
+#[tactic(auto, unfolding(typelib::specs::Tables::lent, crate::specs::Cursors::param_at))]
+fn param_at(s: &[u8], cursor: ParamCursor) -> Result<Place, Refusal>
+    ensures { told result ≡ lent s.now (param_at s.now (over_params.stands cursor)) }
 {
-    if LIMIT < s.len() {
-        return PlaceAnswer::Refused(1);
-    }
+    is_lent(s)?;
     if cursor.remaining == 0 {
-        return PlaceAnswer::Refused(9);
+        return Err(Refusal::NothingThere);
     }
     fixed_at(s, cursor.pos, cursor.end, ParameterInfo::SIZE)
 }
 
 // The block at a memoffset, where it has one and `count` records are declared.
-fn block_with(s: &[u8], memoffset: u32, count: u16) -> Block
-    ensures { told_block result ≡ block_with s.now memoffset count }
+// (Whether an offset is negative is one comparison; what follows is nothing here, and a refusal elsewhere.)
+#[tactic(auto, unfolding(crate::specs::Cursors::block_with))]
+fn block_with(s: &[u8], memoffset: u32, count: u16) -> Option<Place>
+    ensures { (result ≡ block_with s.now memoffset count) × IfSome result (λ block. block.at + block.len < 2 ^ 33) }
 {
     if NEGATIVE <= memoffset {
-        return Block::Nothing;
+        return None;
     }
     if count == 0 {
-        return Block::Nothing;
+        return None;
     }
-    match util::read_u32_le(s, memoffset as usize) {
-        util::U32Read::Value(size) => Block::Some(memoffset, size),
-        util::U32Read::Nothing => Block::Nothing,
-    }
+    let size = u32::read_le(s, memoffset as usize)?;
+    Some(Place {
+        at: memoffset as usize + 4,
+        len: size as usize,
+    })
 }
 
+// (Three functions, as the cursors are three types, each of which starts at a place of its own.)
 fn func_cursor(s: &[u8], memoffset: u32, count: u16) -> FuncCursor
     ensures { result ≡ func_cursor count (block_with s.now memoffset count) }
 {
-    match block_with(s, memoffset, count) {
-        Block::Some(at, size) => FuncCursor {
-            pos: at as usize + 4,
-            end: at as usize + 4 + size as usize,
-            remaining: count as usize,
-            yielded: 0,
-        },
-        Block::Nothing => FuncCursor {
-            pos: 0,
-            end: 0,
-            remaining: 0,
-            yielded: 0,
-        },
+    let Some(block) = block_with(s, memoffset, count) else {
+        return FuncCursor::default();
+    };
+    FuncCursor {
+        pos: block.at,
+        end: block.at + block.len,
+        remaining: count as usize,
+        yielded: 0,
     }
 }
 
 fn var_cursor(s: &[u8], memoffset: u32, c: Counts) -> VarCursor
     ensures { result ≡ var_cursor s.now c (block_with s.now memoffset c.vars) }
 {
-    match block_with(s, memoffset, c.vars) {
-        Block::Some(at, size) => {
-            let first = at as usize + 4;
-            vars_from(
-                skip_functions(s, first, c.funcs as usize),
-                first + size as usize,
-                c.vars,
-            )
-        }
-        Block::Nothing => VarCursor {
-            pos: 0,
-            end: 0,
-            remaining: 0,
-            yielded: 0,
-        },
-    }
-}
-
-fn vars_from(start: Skipped, end: usize, count: u16) -> VarCursor
-    ensures { result ≡ vars_from end count (told_skip start) }
-{
-    match start {
-        Skipped::At(pos) => VarCursor {
-            pos,
-            end,
-            remaining: count as usize,
-            yielded: 0,
-        },
-        Skipped::Nothing => VarCursor {
-            pos: 0,
-            end: 0,
-            remaining: 0,
-            yielded: 0,
-        },
+    let Some(block) = block_with(s, memoffset, c.vars) else {
+        return VarCursor::default();
+    };
+    let Some(pos) = skip_functions(s, block.at, c.funcs as usize) else {
+        return VarCursor::default();
+    };
+    VarCursor {
+        pos,
+        end: block.at + block.len,
+        remaining: c.vars as usize,
+        yielded: 0,
     }
 }
 
 // Past `count` function records from `start` on, by their sizes alone.
-fn skip_functions(s: &[u8], start: usize, count: usize) -> Skipped
-    ensures { told_skip result ≡ skip count s.now start }
+fn skip_functions(s: &[u8], start: usize, count: usize) -> Option<usize>
+    ensures { result ≡ skip count s.now start }
 {
     let mut pos = start;
-    let mut left = count;
-    while 0 < left {
-        let util::U32Read::Value(info) = util::read_u32_le(s, pos) else {
-            return Skipped::Nothing;
-        };
-        let size = util::bits(info, 0, 16) as usize;
+    for _ in 0..count {
+        let size = util::bits(u32::read_le(s, pos)?, 0, 16) as usize;
         if size == 0 {
-            return Skipped::At(pos);
+            return Some(pos);
         }
-        pos = pos + size;
-        left = left - 1;
+        pos += size;
     }
-    Skipped::At(pos)
+    Some(pos)
 }
 
+#[tactic(auto, unfolding(crate::specs::Cursors::param_cursor))]
 fn param_cursor(place: Place, count: u16) -> ParamCursor
     requires { place.at + place.len < 2 ^ 63 }
     ensures { result ≡ param_cursor place count }
@@ -390,12 +321,7 @@ fn param_cursor(place: Place, count: u16) -> ParamCursor
     let size = 12 * (count as usize);
     let len = place.len;
     if len < size {
-        return ParamCursor {
-            pos: 0,
-            end: 0,
-            remaining: 0,
-            yielded: 0,
-        };
+        return ParamCursor::default();
     }
     ParamCursor {
         pos: place.at + (len - size),

@@ -1,6 +1,5 @@
 -- Constants (document 01, "The sheet (added)"), as `const_value` reads them. Assumes nothing.
-use Rattle.std.specs.Prelude.{cond, List, [], ℕ}
-use Rattle.std.proofs.Math.Option.{Option}
+use Rattle.std.specs.Prelude.{cond, List, [], ℕ, Option}
 use Rattle.std.specs.Float.{binary32, binary64}
 use Rattle.std.specs.Float.Ieee.{to_bits}
 use Rattle.std.specs.Int.{w8, w16, w32, w64}

@@ -1,5 +1,5 @@
 -- Constants that are taken from bytes fit the sheet. Assumes nothing.
-use Rattle.std.specs.Prelude.{◌≡◌, Bool, not, ◌&&◌, List, [], ◌∷◌, ℕ, zero, suc, ◌+◌, ◌*◌, ◌^◌, ◌≤◌, ◌<◌, T, eqb, length, get_or}
+use Rattle.std.specs.Prelude.{◌≡◌, Bool, Float, not, ◌&&◌, List, [], ◌∷◌, ℕ, zero, suc, ◌+◌, ◌*◌, ◌^◌, ◌≤◌, ◌<◌, T, eqb, length, get_or}
 use Rattle.std.proofs.Math.Path.{refl}
 use Rattle.std.proofs.Common.{sym, ◌∙◌, ap, mod-lt, arith, lit<, pow_pos}
 use Rattle.std.proofs.Math.Bool.{true, false}
@@ -11,7 +11,9 @@ use mir.Syntax.{Width, w8, w16, w32, w64}
 use mir.Val.{bits, to_z, of_z}
 use mir.ValLaws.{of_z-to_z}
 use Rattle.util.specs.Read.{le, le-lt, cond-elim}
-use Rattle.util.specs.Real.{Real, number, nan, real_of, bits_back}
+use Rattle.util.specs.declared.Real.{Real}
+use Rattle.util.specs.declared.Real.TheVariants.{Number, Nan}
+use Rattle.util.specs.Real.{real_of, bits_back}
 use Rattle.util.specs.Real as real
 use Rattle.records.specs.declared.answer.Place.{Place}
 use Rattle.records.specs.declared.types.ConstValue.{ConstValue}
@@ -112,20 +114,20 @@ module _ (s : List ℕ) where
   raw-fits vt v h e = (h, number_at (shape_of vt) _ 4 _ (shape-raw vt e) refl (signed_lt w32 (low 32 v) (low-lt 32 v)))
 
   -- a float, by its bits
-  r4-fits : (r : Real) → real.bits_of binary32 r < 256 ^ 4 → Fitted (r4_as r)
+  r4-fits : (r : Real Float ℕ) → real.bits_of binary32 r < 256 ^ 4 → Fitted (r4_as r)
   unfolding constant constant_from vt_of content_of real.bits_of
-  r4-fits (number x) h = (lit< tt, h)
-  r4-fits (nan n) h = (lit< tt, h)
+  r4-fits (Number x) h = (lit< tt, h)
+  r4-fits (Nan n) h = (lit< tt, h)
 
-  r8-fits : (r : Real) → real.bits_of binary64 r < 256 ^ 8 → Fitted (r8_as r)
+  r8-fits : (r : Real Float ℕ) → real.bits_of binary64 r < 256 ^ 8 → Fitted (r8_as r)
   unfolding constant constant_from vt_of content_of real.bits_of
-  r8-fits (number x) h = (lit< tt, h)
-  r8-fits (nan n) h = (lit< tt, h)
+  r8-fits (Number x) h = (lit< tt, h)
+  r8-fits (Nan n) h = (lit< tt, h)
 
-  date-fits : (r : Real) → real.bits_of binary64 r < 256 ^ 8 → Fitted (date_as r)
+  date-fits : (r : Real Float ℕ) → real.bits_of binary64 r < 256 ^ 8 → Fitted (date_as r)
   unfolding constant constant_from vt_of content_of real.bits_of
-  date-fits (number x) h = (lit< tt, h)
-  date-fits (nan n) h = (lit< tt, h)
+  date-fits (Number x) h = (lit< tt, h)
+  date-fits (Nan n) h = (lit< tt, h)
 
   real-lt : (f : Format) (n : ℕ) → n < 2 * top f → real.bits_of f (real_of f n) < 2 * top f
   real-lt f n h = rw (bits_back f n h) h

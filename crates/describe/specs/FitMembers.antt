@@ -1,7 +1,6 @@
 -- Functions, parameters and variables that are taken from bytes fit the sheet. Assumes nothing.
-use Rattle.std.specs.Prelude.{◌≡◌, refl, Bool, true, false, List, ℕ, suc, ◌+◌, ◌-◌, ◌*◌, ◌^◌, ◌≤◌, ◌<◌, ltb, ℤ, pos, negsuc, length}
+use Rattle.std.specs.Prelude.{◌≡◌, refl, Bool, true, false, List, ℕ, suc, ◌+◌, ◌-◌, ◌*◌, ◌^◌, ◌≤◌, ◌<◌, ltb, ℤ, pos, negsuc, length, Option, Some, None}
 use Rattle.std.proofs.Common.{◌∙◌, mod-lt, arith, pow_pos, ltb-true}
-use Rattle.std.proofs.Math.Option.{Option, some, none}
 use Rattle.std.proofs.Math.Dec.{lit<}
 use mir.Syntax.{w16, w32}
 use mir.Val.{to_z, of_z, sel}
@@ -46,16 +45,16 @@ counts-short s ti =
     answers-map (λ v. record { funcs = f; vars = v }) (bits-short 16 (of_type_info "cElement" s ti)) (λ v k. (h, k)))
 
 func-remaining : (count : ℕ) (o : Option Place) → count < 256 ^ 2 → (func_cursor count o).remaining < 256 ^ 2
-func-remaining count none h = lit< tt
-func-remaining count (some b) h = h
+func-remaining count None h = lit< tt
+func-remaining count (Some b) h = h
 
 var-remaining : (end count : ℕ) (o : Option ℕ) → count < 256 ^ 2 → (vars_from end count o).remaining < 256 ^ 2
-var-remaining end count none h = lit< tt
-var-remaining end count (some start) h = h
+var-remaining end count None h = lit< tt
+var-remaining end count (Some start) h = h
 
 vars-remaining : (s : List ℕ) (c : Counts) (o : Option Place) → c.vars < 256 ^ 2 → (var_cursor s c o).remaining < 256 ^ 2
-vars-remaining s c none h = lit< tt
-vars-remaining s c (some b) h = var-remaining (b.at + b.len) c.vars (skip c.funcs s b.at) h
+vars-remaining s c None h = lit< tt
+vars-remaining s c (Some b) h = var-remaining (b.at + b.len) c.vars (skip c.funcs s b.at) h
 
 positive-short : (n : ℕ) → at_least_zero (to_z w16 n) < 256 ^ 2
 positive-short n = by (ltb n (2 ^ 15)) refl

@@ -1,7 +1,6 @@
 -- The numbers of a library's functions, variables and parameters (document 02, §10). Assumes nothing.
-use Rattle.std.specs.Prelude.{◌≡◌, refl, List, ℕ, ◌+◌, ◌*◌, ◌^◌, ◌<◌, ltb}
+use Rattle.std.specs.Prelude.{◌≡◌, refl, List, ℕ, ◌+◌, ◌*◌, ◌^◌, ◌<◌, ltb, Option, Some, None}
 use Rattle.std.proofs.Common.{sym, arith}
-use Rattle.std.proofs.Math.Option.{Option, some, none}
 use Rattle.util.specs.Read.{cond-elim}
 use Rattle.records.specs.declared.answer.Place.{Place}
 use Rattle.records.specs.declared.typeinfo.TypeInfoEntry.{TypeInfoEntry}
@@ -24,16 +23,16 @@ use Rattle.describe.specs.FitMembers.{funcs-short, vars-short, params-short}
 -- ---- the cursors that the library gives have yielded none
 
 func-none : (count : ℕ) (o : Option Place) → (func_cursor count o).yielded ≡ 0
-func-none count none = refl
-func-none count (some b) = refl
+func-none count None = refl
+func-none count (Some b) = refl
 
 vars-none : (end count : ℕ) (o : Option ℕ) → (vars_from end count o).yielded ≡ 0
-vars-none end count none = refl
-vars-none end count (some start) = refl
+vars-none end count None = refl
+vars-none end count (Some start) = refl
 
 var-none : (s : List ℕ) (c : Counts) (o : Option Place) → (var_cursor s c o).yielded ≡ 0
-var-none s c none = refl
-var-none s c (some b) = vars-none (b.at + b.len) c.vars (skip c.funcs s b.at)
+var-none s c None = refl
+var-none s c (Some b) = vars-none (b.at + b.len) c.vars (skip c.funcs s b.at)
 
 param-none : (r : Place) (n : ℕ) → (param_cursor r n).yielded ≡ 0
 unfolding param_cursor

@@ -1,7 +1,6 @@
 -- Functions with their parameters, and variables (document 01, "The sheet (added)"), as the cursors yield them.
 -- Assumes nothing.
-use Rattle.std.specs.Prelude.{Bool, true, false, cond, List, [], ◌∷◌, ℕ, zero, suc, ℤ}
-use Rattle.std.proofs.Math.Option.{Option, none}
+use Rattle.std.specs.Prelude.{Bool, true, false, cond, List, [], ◌∷◌, ℕ, zero, suc, ℤ, Option, None}
 use Rattle.std.specs.Int.{w32}
 use Rattle.std.proofs.Common.{of_z}
 use Rattle.records.specs.declared.answer.Place.{Place}
@@ -70,11 +69,11 @@ module _ (s : List ℕ) (lib : TypeLib) where
 
   abbrev pub constant_by : Answer ℤ → Option Constant
   constant_by (value z) = constant_of s lib (of_z w32 z)
-  constant_by (refused n) = none
+  constant_by (refused n) = None
 
   -- "The constant is read if flag 0x20 is set at 0x08 and `default_value_offset` gives one; else nothing."
   unfoldable pub default_of : ℕ → Answer ℤ → Option Constant
-  default_of flags offset = cond (flag_set has_default flags) (constant_by offset) none
+  default_of flags offset = cond (flag_set has_default flags) (constant_by offset) None
 
   abbrev pub parameter_with : FuncRecord → ℕ → ℕ → Tree → Parameter
   parameter_with f i at datatype =

@@ -1,7 +1,6 @@
 -- Document 02, §4: worked cases of a reference, in whole descriptions and whole sheets, as rows of one list: document 01's four
 -- references, its 4 with the bit 0x01000000, 0x02000000, −4, and 104 and 0 in a library of one type.
-use Rattle.std.specs.Prelude.{◌≡◌, refl, List, [], ◌∷◌, ◌++◌, ℕ, ◌+◌, ◌-◌, ◌*◌, length, replicate, set}
-use Rattle.std.proofs.Math.Option.{none}
+use Rattle.std.specs.Prelude.{◌≡◌, refl, List, [], ◌∷◌, ◌++◌, ℕ, ◌+◌, ◌-◌, ◌*◌, length, replicate, set, None}
 use mathlib.Core.List as list
 use Rattle.util.specs.Read.{le, read}
 use Rattle.records.specs.Answer.{Answer, value, refused, map}
@@ -43,8 +42,8 @@ interface r =
       kind = 3;
       flags = 0;
       version = 0;
-      guid = none;
-      name = none;
+      guid = None;
+      name = None;
       declared_functions = 0;
       declared_variables = 0;
       base = r;
@@ -58,8 +57,8 @@ blank =
       kind = 0;
       flags = 0;
       version = 0;
-      guid = none;
-      name = none;
+      guid = None;
+      name = None;
       declared_functions = 0;
       declared_variables = 0;
       base = tt;
@@ -69,7 +68,7 @@ blank =
 
 abbrev pub described : ℕ → Reference → Library
 described count r =
-    record { header = record { lcid = 0; version = 0; guid = none; name = none }; types = interface r ∷ replicate (count - 1) blank }
+    record { header = record { lcid = 0; version = 0; guid = None; name = None }; types = interface r ∷ replicate (count - 1) blank }
 
 -- a type's body has 15 bytes before its base and 4 behind it
 abbrev pub laid_out : ℕ → Bytes → Bytes

@@ -3,7 +3,7 @@ use Rattle.std.specs.Prelude.{◌≡◌, refl, List, ℕ}
 use Rattle.std.proofs.Common.{sym, ap, ◌∙◌}
 use Rattle.records.specs.Answer.{Answer, value, refused}
 use Rattle.typelib.specs.declared.TypeLib.{TypeLib}
-use Rattle.typelib.specs.declared.Parsed.{Parsed}
+use Rattle.typelib.specs.Header.{Parsed}
 use Rattle.typelib.specs.Header.{parse_of, parsed}
 use Rattle.describe.specs.Answers.{answers-refused}
 use Rattle.describe.specs.Refusals.{parse-sound}

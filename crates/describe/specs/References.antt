@@ -1,8 +1,7 @@
 -- References (document 01, "The sheet (added)"), as `resolve_hreftype_full` resolves them, but for those that hit no typeinfo (document
 -- 02, §4), which it does not tell from others. `MisplacedLaws` says how the description's reference and that resolver's answer stand to
 -- each other. Assumes nothing.
-use Rattle.std.specs.Prelude.{Bool, true, false, cond, not, ◌&&◌, List, ℕ, ◌+◌, ◌%◌, eqb}
-use Rattle.std.proofs.Math.Option.{Option}
+use Rattle.std.specs.Prelude.{Bool, true, false, cond, not, ◌&&◌, List, ℕ, ◌+◌, ◌%◌, eqb, Option}
 use Rattle.util.specs.Read.{read, or_zero}
 use Rattle.records.specs.declared.answer.Place.{Place}
 use Rattle.records.specs.Answer.{Answer, value, refused, map, bind}

@@ -167,7 +167,7 @@ module _ (s : List ℕ) (lib : TypeLib) where
       answers-bind (functions-sound ti) (λ functions _.
       answers-map (type_with s lib ti.at under functions) (variables-sound ti) (λ _ _. tt))))
 
-  types-sound : (k i : ℕ) → Each Sound (types_from s lib k i)
+  pub types-sound : (k i : ℕ) → Each Sound (types_from s lib k i)
   unfolding types_from
   types-sound zero i = tt
   types-sound (suc k) i = (type-sound i, types-sound k (i + 1))

@@ -1,7 +1,6 @@
 -- What the fields of a description are made of: numbers and bytes that the readings find, and lists of answers.
 -- Assumes nothing.
-use Rattle.std.proofs.Math.Option.{Option, some, none}
-use Rattle.std.specs.Prelude.{List, [], ◌∷◌, ℕ, ◌+◌, ◌<◌, get_or}
+use Rattle.std.specs.Prelude.{List, [], ◌∷◌, ℕ, ◌+◌, ◌<◌, get_or, Option, Some, None}
 use Prim.Native.String.{String}
 use Rattle.util.specs.Read.{read, or_zero}
 use Rattle.records.specs.declared.answer.Place.{Place}
@@ -16,8 +15,8 @@ Octets s = (i : ℕ) → get_or s i 0 < 256
 
 -- what a reading found; missing where it refused
 abbrev pub found : {A : Type 0} → Answer A → Option A
-found (value a) = some a
-found (refused n) = none
+found (value a) = Some a
+found (refused n) = None
 
 -- the bytes at a place that a reading found
 abbrev pub bytes_in : List ℕ → Answer Place → Answer Bytes

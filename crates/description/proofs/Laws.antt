@@ -1,8 +1,7 @@
 -- What holds of the sheets of an edition. Each law is a law of every format, at the format of the sheet.
 -- Assumes nothing.
-use Rattle.std.specs.Prelude.{◌≡◌, ◌↔◌, List, [], ◌++◌, ℕ}
+use Rattle.std.specs.Prelude.{◌≡◌, ◌↔◌, List, [], ◌++◌, ℕ, Some}
 use Rattle.std.proofs.Math.Path.{ap}
-use Rattle.std.proofs.Math.Option.{some}
 use Rattle.std.proofs.Math.ListN.{length}
 use Rattle.description.specs.Format.{Fits, reads, only-reads, same, prefix-free}
 use Rattle.description.specs.Description.{Library}
@@ -22,11 +21,11 @@ module _ (e : Edition) where
   sheets-prefix-free s h h' p = prefix-free (sheet e) s h h' p
 
   -- a sheet is read back, whatever follows it
-  pub sheet-reads : (d : Library) (rest : List ℕ) → Fits (sheet e) d → read_sheet e (sheet_bytes e d ++ rest) ≡ some (d, rest)
+  pub sheet-reads : (d : Library) (rest : List ℕ) → Fits (sheet e) d → read_sheet e (sheet_bytes e d ++ rest) ≡ Some (d, rest)
   unfolding sheet sheet_bytes read_sheet
   sheet-reads = reads (sheet e)
 
   -- nothing but a sheet is read
-  pub sheet-only-reads : {d : Library} {bs rest : List ℕ} → read_sheet e bs ≡ some (d, rest) → Fits (sheet e) d × (bs ≡ sheet_bytes e d ++ rest)
+  pub sheet-only-reads : {d : Library} {bs rest : List ℕ} → read_sheet e bs ≡ Some (d, rest) → Fits (sheet e) d × (bs ≡ sheet_bytes e d ++ rest)
   unfolding sheet sheet_bytes read_sheet
   sheet-only-reads p = only-reads (sheet e) p

@@ -1,8 +1,7 @@
 -- The bytes of a sheet, field by field: document 01, "The sheet (added)", in its order and its words, with the code that document 02
 -- adds. Each law follows from the formats of `Sheet` by computation. What writes a sheet is proved by these laws. Assumes nothing.
-use Rattle.std.specs.Prelude.{◌≡◌, false, List, [], ◌∷◌, ◌++◌, map, ℕ, suc, length}
+use Rattle.std.specs.Prelude.{◌≡◌, false, List, [], ◌∷◌, ◌++◌, map, ℕ, suc, length, Option, None, Some}
 use Rattle.std.proofs.Math.Path.{refl}
-use Rattle.std.proofs.Math.Option.{Option, none, some}
 use Rattle.description.specs.Format.{Format, encode, number, joined, counted, opt}
 use Rattle.description.specs.Description.{Bytes, File, own_is_guid, Import, Internal, Misplaced, Reference, Dimension, Tree, Shape, shape_of, Constant, is_constant, Variable, Parameter, Function, ImplType, BaseShape, base_shape_of, Base, TypeInfo, Header, Library}
 use Rattle.description.specs.Sheet.{Edition, u8, u16, u32, bit, guid, name, file, own, import, internal, misplaced, reference, dimension, level, nested, tree, value, constant, variable_value, variable, parameter, function, impl_type, base, type_info, header, contents, contents_of, bodies, sheet_layout, sheet_bytes}
@@ -15,11 +14,11 @@ in_order (p ∷ (q ∷ ps)) = p ++ in_order (q ∷ ps)
 
 -- "opt" is byte 0 for nothing, or byte 1 and the value.
 module _ {A : Type 0} (F : Format A) where
-  pub opt_none : encode (opt F) none ≡ 0 ∷ []
+  pub opt_none : encode (opt F) None ≡ 0 ∷ []
   unfolding opt
   opt_none = refl
 
-  pub opt-some : (a : A) → encode (opt F) (some a) ≡ 1 ∷ encode F a
+  pub opt-some : (a : A) → encode (opt F) (Some a) ≡ 1 ∷ encode F a
   unfolding opt
   opt-some a = refl
 
@@ -166,11 +165,11 @@ unfolding constant
 constant-bytes c = refl
 
 -- Text: byte 0 for null,
-pub null-bytes : encode (value Shape.text) none ≡ 0 ∷ []
+pub null-bytes : encode (value Shape.text) None ≡ 0 ∷ []
 null-bytes = opt_none (counted u32)
 
 -- or byte 1, u32 length, bytes.
-pub text-bytes : (x : Bytes) → encode (value Shape.text) (some x) ≡ 1 ∷ in_order (encode u32 (length x) ∷ x ∷ [])
+pub text-bytes : (x : Bytes) → encode (value Shape.text) (Some x) ≡ 1 ∷ in_order (encode u32 (length x) ∷ x ∷ [])
 text-bytes x = opt-some (counted u32) x
 
 pub dimension-bytes : (d : Dimension) → encode dimension d ≡ in_order (encode u32 d.count ∷ encode u32 d.lower_bound ∷ [])

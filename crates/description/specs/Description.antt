@@ -8,8 +8,7 @@
 -- The fields of a record stand in document 01's order. A type stands below those that it is made of, so document 01's list
 -- stands here from its last item to its first. Offsets are document 01's, and Wine's; names are Wine's or the Rust's.
 -- Assumes nothing.
-use Rattle.std.specs.Prelude.{Bool, true, false, cond, List, [], ◌∷◌, ℕ, suc, ◌/◌, ◌%◌, eqb, get_or}
-use Rattle.std.proofs.Math.Option.{Option}
+use Rattle.std.specs.Prelude.{Bool, true, false, cond, List, [], ◌∷◌, ℕ, suc, ◌/◌, ◌%◌, eqb, get_or, Option}
 
 -- the bytes of a GUID, a name, a text or a decimal
 abbrev pub Bytes : Type 0

@@ -1,8 +1,7 @@
 -- Each record of the description as the tuple of its fields, and each of its data types as the code of a case and the
 -- case's value: the forms that the formats of `Sheet` lay out. Assumes nothing.
-use Rattle.std.specs.Prelude.{◌≡◌, refl, List, [], ◌∷◌, ℕ, zero, suc}
+use Rattle.std.specs.Prelude.{◌≡◌, refl, List, [], ◌∷◌, ℕ, zero, suc, Option}
 use mathlib.Core.Equiv.{Iso}
-use Rattle.std.proofs.Math.Option.{Option}
 use Rattle.description.specs.Format.{At, Cases}
 use Rattle.description.specs.Description.{Bytes, File, Own, own_is_guid, Import, Internal, Misplaced, Reference, Dimension, Tree, Value, shape_of, Constant, VariableValue, is_constant, Variable, Parameter, Function, ImplType, Base, base_shape_of, TypeInfo, Header, Library}
 use Rattle.description.specs.Description.Reference.{unresolved, internal, imported, misplaced}

@@ -1,7 +1,6 @@
 -- Which values fit the formats of `Sheet`: what there is to show of a value, case by case, and of a description.
 -- Assumes nothing.
-use Rattle.std.specs.Prelude.{refl, List, length}
-use Rattle.std.proofs.Math.Option.{Option}
+use Rattle.std.specs.Prelude.{refl, List, length, Option}
 use Prim.Native.Nat.{ℕ, zero, suc, ◌^◌, ◌≤◌, ◌<◌}
 use native.Mathlib.Omega.{arith}
 use Rattle.std.proofs.Common.{lit<}

@@ -6,9 +6,8 @@
 --
 -- A format stands below those that it is made of, so document 01's list stands here from its last item to its first.
 -- `ByteLayout` says of the bytes what follows from this file, from document 01's first item to its last. Assumes nothing.
-use Rattle.std.specs.Prelude.{◌≡◌, Bool, true, false, ℕ, zero, suc, length}
+use Rattle.std.specs.Prelude.{◌≡◌, Bool, true, false, ℕ, zero, suc, length, Option}
 use mathlib.Core.HLevel.{Discrete, ×_discrete}
-use Rattle.std.proofs.Math.Option.{Option}
 use mathlib.Core.List.{List, map, List-discrete}
 use Rattle.std.proofs.Math.Decide.{ℕ_discrete}
 use Rattle.description.specs.Format.{Layout, Format, encode, unit, never, number, ◌then◌, ◌&◌, via, only, below, prefixed-layout, prefixed-lawful, times, list, octets, counted, end, ◌or◌, sum, opt}

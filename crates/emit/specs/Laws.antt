@@ -1,6 +1,6 @@
 -- The laws of emitters. Assumes nothing.
-use Rattle.std.specs.Prelude.{◌≡◌, refl, false, List, [], ◌∷◌, ◌++◌, ℕ, zero, suc, ◌+◌, ◌*◌, ◌^◌, ◌-◌, ◌/◌, ◌%◌, ◌≤◌, ◌<◌, min, max, leb, length, get_or, set, drop, take}
-use Rattle.std.proofs.Common.{sym, ap, ap₂, ◌∙◌, append-nil, append_assoc, zero-add, add-zero, add-suc, suc-add, mul_assoc, arith, le-leb, leb-true, leb-false, length-set, length-append, length-drop, take-append-drop, drop_of_length-le, add-one, drop-cons, take_all, take-take, take_at, drop_at, drop-drop, take-add, length-take-le}
+use Rattle.std.specs.Prelude.{◌≡◌, refl, List, [], ◌∷◌, ◌++◌, ℕ, zero, suc, ◌+◌, ◌*◌, ◌^◌, ◌-◌, ◌/◌, ◌%◌, ◌≤◌, ◌<◌, min, max, leb, length, set, drop, take, false, get_or}
+use Rattle.std.proofs.Common.{sym, ap, ap₂, ◌∙◌, append-nil, append_assoc, zero-add, add-zero, add-suc, suc-add, mul_assoc, arith, le-leb, leb-true, leb-false, length-set, length-append, length-drop, take_all, take-take, take_at, drop_at, take-add, length-take-le, take-append-drop, drop_of_length-le, add-one, drop-cons, drop-drop}
 use Rattle.std.proofs.Math.Nat.{pow-succ'}
 use Rattle.std.proofs.lemmas.Bool.{lt-leb}
 use Rattle.std.proofs.lemmas.List.Edits.{sets, sets-eq}
@@ -259,13 +259,6 @@ counted-stored s q p {r} {o} {o₁} {o₂} h e₁ e₂ m =
       only = λ _. h;
     }
 
--- where there is no room
-pub no_room : (n m : ℕ) → leb n m ≡ false → n ≤ m → ⊥
-no_room n m e h = omega (arith, leb-false n m e)
-
-pub not-tried : {P : Type 0} {x : Answer Bytes} {to : ℕ} {o : List ℕ} → (P → ⊥) → Tried P x to o 0 o
-not-tried n = record { none = λ _. refl; done = λ h. absurd (h refl); tries = λ p _. n p; only = λ h. absurd (h refl) }
-
 -- a number that stands for a place is that place
 pub place_is : (n : ℕ) {p : ℕ} → put n ≡ At p → n ≡ p
 place_is n {p} = put-elim (λ t. t ≡ At p → n ≡ p) n (λ h e. cc) (λ h e. absurd (let z : ◌≡◌ {A = ℕ} 0 1 = cc in omega arith))
@@ -406,6 +399,21 @@ unfolding le_bytes
 le_bytes-none zero n h = refl
 le_bytes-none (suc w) n h = absurd (omega arith)
 
+-- ---- numbers of the library
+
+-- a number that would end past the end
+pub past_end : (w : ℕ) (s : List ℕ) (at : ℕ) → length s < at + w → 0 ≡ or_zero (read w s at)
+past_end w s at h = ap or_zero (read_none w s at h)
+
+-- ---- the same by cases
+
+-- where there is no room
+pub no_room : (n m : ℕ) → leb n m ≡ false → n ≤ m → ⊥
+no_room n m e h = omega (arith, leb-false n m e)
+
+pub not-tried : {P : Type 0} {x : Answer Bytes} {to : ℕ} {o : List ℕ} → (P → ⊥) → Tried P x to o 0 o
+not-tried n = record { none = λ _. refl; done = λ h. absurd (h refl); tries = λ p _. n p; only = λ h. absurd (h refl) }
+
 pub drop_more : (l : List ℕ) (i : ℕ) → i < length l → drop i l ≡ get_or l i 0 ∷ drop (i + 1) l
 drop_more l i h = rw (add-one i) (drop-cons l i 0 h)
 
@@ -434,9 +442,3 @@ copy-part l w bytes at i j g h e =
 
 pub copy_done : (l w bytes : List ℕ) (at i : ℕ) → length bytes ≤ i → sets l (at + i) (drop i bytes) ≡ w → l ≡ w
 copy_done l w bytes at i h e = rw (drop-none bytes i h) at e
-
--- ---- numbers of the library
-
--- a number that would end past the end
-pub past_end : (w : ℕ) (s : List ℕ) (at : ℕ) → length s < at + w → 0 ≡ or_zero (read w s at)
-past_end w s at h = ap or_zero (read_none w s at h)

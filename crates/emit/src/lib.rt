@@ -3,20 +3,24 @@
 // A refusal stays in the place and passes through, with the output as it was, so that a row of emitters is a straight line.
 // Bytes that have no room in the output are only counted: over an output of no bytes an emitter measures. Nothing that stands before
 // its place changes, whatever happens. Behind the place that it replies it may store too: the next emitter goes over that.
-// A place and a refusal are one number, since an enum is slow to hand on.
+// A place and a refusal are one number, since an enum is slow to hand on. The library, its numbers, the output and the place go
+// in apart: a struct of them is handed on by way of memory, which made a sheet slower. Contracts tell the place, and the output before and after.
 
 #![tactic(auto)]
 
-ghost use Rattle.std.specs.Prelude.{◌≡◌, ◌∷◌, [], ◌+◌, ◌≤◌, max, leb, length, drop};
+ghost use Rattle.std.specs.Prelude.{◌≡◌, ◌∷◌, [], ◌+◌, ◌≤◌, ◌<◌, max, length, take, drop};
+ghost use Rattle.std.specs.Bool.{MatchBool};
 ghost use Rattle.std.proofs.lemmas.List.Edits.{sets};
 ghost use Rattle.util.specs.Read.{read, or_zero};
 ghost use Rattle.records.specs.Answer.{value, refused};
+ghost use Rattle.records.specs.Told.{refusal_number};
+ghost use Rattle.records.specs.declared.answer.Refusal.{Refusal};
 ghost use Rattle.records.specs.Record.{part_of};
 ghost use Rattle.description.specs.Format.{le_bytes};
-ghost use Rattle.emit.specs.Emit.{Emitted, Overwritten, TriedShort, put, past, Emits};
+ghost use Rattle.emit.specs.Emit.{Emitted, Overwritten, Refused, TriedShort, put, past, short, Emits};
 
 use records::answer;
-use records::answer::{Place, PlaceAnswer};
+use records::answer::{Place, Refusal};
 
 // No place is past this, one more than the most bytes that a sheet has. A number past it is a refusal: 0 is the next, and so on.
 pub const PAST: usize = 16_777_217;
@@ -24,21 +28,43 @@ pub const PAST: usize = 16_777_217;
 // A part of at most so many bytes is short.
 const SHORT: usize = 32;
 
-// Where an emitter ends whose bytes would end past it.
+// Where an emitter ends whose bytes would end past it. (One call of the library, under a name that says what it is for.)
 fn stopped(at: usize) -> usize
     ensures { result ≡ max at past }
 {
-    if at < PAST { PAST } else { at }
+    at.max(PAST)
 }
 
 // The refusal, unless there is one already.
-pub fn put_refusal(to: usize, number: u8) -> usize
-    ensures { (o : _) → Emitted (refused number) (put to) o (put result) o }
+pub fn put_refusal(to: usize, refusal: Refusal) -> usize
+    ensures { (o : _) → Emitted (refused (refusal_number refusal)) (put to) o (put result) o }
 {
     if to <= PAST {
-        PAST + 1 + number as usize
+        PAST + 1 + usize::from(refusal.number())
     } else {
         to
+    }
+}
+
+// The refusal that a number past all places is. (Nothing else makes a refusal of a number, so that it stands here.)
+#[tactic(auto, unfolding(crate::specs::Emit::put))]
+pub fn refusal(to: usize) -> Refusal
+    ensures { (e : Refusal) → put to ≡ Refused (refusal_number e) → result ≡ e }
+{
+    match to.saturating_sub(PAST + 1) % 256 {
+        1 => Refusal::OverLong,
+        2 => Refusal::ShortHeader,
+        3 => Refusal::WrongMagic,
+        4 => Refusal::BadCount,
+        5 => Refusal::ShortDirectory,
+        6 => Refusal::NoSuchTypeInfo,
+        7 => Refusal::NoTypeInfoTable,
+        8 => Refusal::ShortTypeInfo,
+        10 => Refusal::Circle,
+        11 => Refusal::TooDeep,
+        12 => Refusal::NoSpace,
+        13 => Refusal::TooManyTypes,
+        _ => Refusal::NothingThere,
     }
 }
 
@@ -50,25 +76,20 @@ pub fn put_u8(out: &mut [u8], to: usize, b: u8) -> usize
     }
     if to < out.len() {
         out[to] = b;
-        to + 1
-    } else {
-        to + 1
     }
+    to + 1
 }
 
-// The lowest `width` bytes of `v`, the lowest first, where there is room for them at `at`.
+// The lowest `width` bytes of `v`, the lowest first, where there is room for them at `at`. (By division, as `le_bytes` is defined: `to_le_bytes`
+// gives all eight, and not as many as are asked for.)
 fn store_le(out: &mut [u8], at: usize, v: u64, width: usize)
     requires { at + width ≤ length out.old }
     ensures { out.new ≡ sets out.old at (le_bytes width v) }
 {
-    let mut place = at;
     let mut rest = v;
-    let mut left = width;
-    while 0 < left {
+    for place in at..at + width {
         out[place] = (rest % 256) as u8;
-        place += 1;
         rest /= 256;
-        left -= 1;
     }
 }
 
@@ -76,111 +97,64 @@ fn store_le(out: &mut [u8], at: usize, v: u64, width: usize)
 pub fn put_le(out: &mut [u8], to: usize, v: u64, width: usize) -> usize
     ensures { Emits (value (le_bytes width v)) to out.old result out.new }
 {
-    if PAST < width {
-        return stopped(to);
-    }
-    if PAST - width < to {
+    if !has_room(PAST, to, width) {
         return stopped(to);
     }
     if to + width <= out.len() {
         store_le(out, to, v, width);
-        to + width
-    } else {
-        to + width
     }
+    to + width
 }
 
+// (By name and not by type, here and below: the width is what the sheet says.)
 pub fn put_u16(out: &mut [u8], to: usize, v: u16) -> usize
     ensures { Emits (value (le_bytes 2 v)) to out.old result out.new }
 {
-    put_le(out, to, v as u64, 2)
+    put_le(out, to, u64::from(v), 2)
 }
 
 pub fn put_u32(out: &mut [u8], to: usize, v: u32) -> usize
     ensures { Emits (value (le_bytes 4 v)) to out.old result out.new }
 {
-    put_le(out, to, v as u64, 4)
+    put_le(out, to, u64::from(v), 4)
 }
 
-// Eight bytes. (All are read before one is stored, so that the compiler makes one move of them.)
-fn store_8(bytes: &[u8], out: &mut [u8], at: usize)
-    requires { (length bytes.now ≡ 8) × (at + 8 ≤ length out.old) }
-    ensures { out.new ≡ sets out.old at bytes.now }
-{
-    let b0 = bytes[0];
-    let b1 = bytes[1];
-    let b2 = bytes[2];
-    let b3 = bytes[3];
-    let b4 = bytes[4];
-    let b5 = bytes[5];
-    let b6 = bytes[6];
-    let b7 = bytes[7];
-    out[at + 0] = b0;
-    out[at + 1] = b1;
-    out[at + 2] = b2;
-    out[at + 3] = b3;
-    out[at + 4] = b4;
-    out[at + 5] = b5;
-    out[at + 6] = b6;
-    out[at + 7] = b7;
-}
-
-// The bytes from `from` on, at their places behind `at`.
-fn store_rest(bytes: &[u8], from: usize, out: &mut [u8], at: usize)
-    requires { (from ≤ length bytes.now) × (at + length bytes.now ≤ length out.old) }
-    ensures { out.new ≡ sets out.old (at + from) (drop from bytes.now) }
-{
-    let count = bytes.len();
-    let mut i = from;
-    while i < count {
-        out[at + i] = bytes[i];
-        i += 1;
-    }
-}
-
-// The bytes, where there is room for them at `at`: eight at a time, and what is left one by one.
+// The bytes, where there is room for them at `at`.
 fn store(bytes: &[u8], out: &mut [u8], at: usize)
     requires { at + length bytes.now ≤ length out.old }
     ensures { out.new ≡ sets out.old at bytes.now }
 {
-    let count = bytes.len();
-    let mut i = 0;
-    while 8 <= count - i {
-        store_8(&bytes[i..i + 8], out, at + i);
-        i += 8;
-    }
-    store_rest(bytes, i, out, at);
+    out[at..at + bytes.len()].copy_from_slice(bytes);
 }
 
 pub fn put_bytes(bytes: &[u8], out: &mut [u8], to: usize) -> usize
     ensures { Emits (value bytes.now) to out.old result out.new }
 {
     let count = bytes.len();
-    if PAST < count {
-        return stopped(to);
-    }
-    if PAST - count < to {
+    if !has_room(PAST, to, count) {
         return stopped(to);
     }
     if to + count <= out.len() {
         store(bytes, out, to);
-        to + count
-    } else {
-        to + count
     }
+    to + count
 }
 
 // Whether `count` bytes from `at` on end by `end`.
 fn has_room(end: usize, at: usize, count: usize) -> bool
-    ensures { result ≡ leb (at + count) end }
+    ensures { MatchBool result (at + count ≤ end) (end < at + count) }
 {
-    if end < count {
-        return false;
-    }
-    if end - count < at {
-        return false;
-    }
-    true
+    count <= end && at <= end - count
+}
+
+// As many bytes of the library at `at` as the longest short part has. (All are read before one is stored, so that the compiler makes two
+// moves of them: it cannot know that the library and the output do not overlap.)
+fn store_short(s: &[u8], at: usize, out: &mut [u8], to: usize)
+    requires { (at + short ≤ length s.now) × (to + short ≤ length out.old) }
+    ensures { out.new ≡ sets out.old to (take short (drop at s.now)) }
+{
+    let bytes: [u8; SHORT] = s[at..at + SHORT].try_into().unwrap();
+    store(&bytes, out, to);
 }
 
 // The bytes at a place of the library; none where it is not wholly inside. (Most are names, and short. How many bytes a short one has
@@ -189,35 +163,31 @@ pub fn put_part(s: &[u8], place: Place, out: &mut [u8], to: usize) -> usize
     ensures { Emits (value (part_of s.now (value place))) to out.old result out.new }
 {
     let at = place.at;
-    if place.len <= SHORT {
-        if to <= PAST - SHORT {
-            if has_room(s.len(), at, SHORT) {
-                if has_room(out.len(), to, SHORT) {
-                    store(&s[at..at + SHORT], out, to);
-                    return to + place.len;
-                }
-            }
-        }
+    if place.len <= SHORT
+        && to <= PAST - SHORT
+        && has_room(s.len(), at, SHORT)
+        && has_room(out.len(), to, SHORT)
+    {
+        store_short(&*s, at, out, to);
+        return to + place.len;
     }
-    put_bytes(answer::part(s, PlaceAnswer::Value(place)), out, to)
+    put_bytes(answer::part(s, Ok(place)), out, to)
 }
 
 // The byte 1, the length in one byte and the bytes at a place of the library; 0, and nothing done, where they are not short, or there
-// is no room for more than they are. (Most names go this way: it is one row of tests and moves.)
+// is no room for more than they are. (Most names go this way: it is one row of tests and moves. The 1 and the length are stored by one move.)
 pub fn put_short_counted(s: &[u8], place: Place, out: &mut [u8], to: usize) -> usize
     ensures { TriedShort s.now place to out.old result out.new }
 {
     let at = place.at;
-    if place.len <= SHORT {
-        if to <= PAST - 2 - SHORT {
-            if has_room(s.len(), at, SHORT) {
-                if has_room(out.len(), to, 2 + SHORT) {
-                    store_le(out, to, 1 + 256 * (place.len as u64), 2);
-                    store(&s[at..at + SHORT], out, to + 2);
-                    return to + 2 + place.len;
-                }
-            }
-        }
+    if place.len <= SHORT
+        && to <= PAST - 2 - SHORT
+        && has_room(s.len(), at, SHORT)
+        && has_room(out.len(), to, 2 + SHORT)
+    {
+        store_le(out, to, 1 + 256 * (place.len as u64), 2);
+        store_short(&*s, at, out, to + 2);
+        return to + 2 + place.len;
     }
     0
 }
@@ -226,35 +196,36 @@ pub fn put_short_counted(s: &[u8], place: Place, out: &mut [u8], to: usize) -> u
 pub fn overwrite(out: &mut [u8], at: usize, v: u64, width: usize)
     ensures { Overwritten (le_bytes width v) (put at) out.old out.new }
 {
-    if at <= PAST {
-        if has_room(out.len(), at, width) {
-            store_le(out, at, v, width);
-        }
+    if at <= PAST && has_room(out.len(), at, width) {
+        store_le(out, at, v, width);
     }
 }
 
 // The two bytes at `offset` of the record at `at`, or 0 where the library ends before them. (The sum
-// is made only where it cannot wrap.)
+// is made only where it cannot wrap, so that `get` does not serve: its range would be that sum.)
+// (`word_at` is the same at another width, and no function of both: `LittleEndian` says nothing of a place behind the end, where the sum could wrap.)
+#[tactic(auto, using(crate::specs::Laws::past_end))]
 pub fn half_at(s: &[u8], at: usize, offset: u32) -> u16
     ensures { result ≡ or_zero (read 2 s.now (at + offset)) }
 {
     let len = s.len();
     if at <= len {
         if offset as usize + 2 <= len - at {
-            return util::u16_or_zero(s, at + offset as usize);
+            return util::or_zero::<u16>(s, at + offset as usize);
         }
     }
     0
 }
 
 // The four bytes at `offset` of the record at `at`, or 0 where the library ends before them.
+#[tactic(auto, using(crate::specs::Laws::past_end))]
 pub fn word_at(s: &[u8], at: usize, offset: u32) -> u32
     ensures { result ≡ or_zero (read 4 s.now (at + offset)) }
 {
     let len = s.len();
     if at <= len {
         if offset as usize + 4 <= len - at {
-            return util::u32_or_zero(s, at + offset as usize);
+            return util::or_zero::<u32>(s, at + offset as usize);
         }
     }
     0

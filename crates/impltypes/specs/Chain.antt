@@ -2,6 +2,10 @@
 -- A record is MSFT_RefRecord of Wine's typelib.h: sixteen bytes of segment 3, of which the last four, `onext`, are the "next
 -- offset, -1 if last". Offsets are 32-bit patterns and count from the table's start. Assumes nothing.
 use Rattle.std.specs.Prelude.{◌≡◌, refl, Bool, true, false, cond, ◌||◌, List, ℕ, zero, suc, ◌+◌, ◌<◌, eqb, length}
+use Rattle.records.specs.Told.{refusal_number}
+use Rattle.cursors.specs.declared.iterators.Step.{Step as StepOf}
+use Rattle.cursors.specs.declared.iterators.Step.TheVariants.{Record, Refused}
+use Rattle.records.specs.declared.refrecord.RefRecord.{RefRecord}
 use Rattle.util.specs.Read.{le}
 use Rattle.records.specs.declared.answer.Place.{Place}
 use Rattle.records.specs.declared.typeinfo.TypeInfoEntry.{TypeInfoEntry}
@@ -10,12 +14,6 @@ use Rattle.records.specs.Layout.{size_of, offset_of, width_of, ref_record, type_
 use Rattle.records.specs.Record.{field}
 use Rattle.typelib.specs.declared.TypeLib.{TypeLib}
 use Rattle.impltypes.specs.declared.ImplTypeCursor.{ImplTypeCursor}
-use Rattle.impltypes.specs.declared.ImplTypesAnswer.{ImplTypesAnswer}
-use Rattle.impltypes.specs.declared.ImplTypesAnswer.TheVariants as types
-use Rattle.impltypes.specs.declared.ImplTypeStep.{ImplTypeStep}
-use Rattle.impltypes.specs.declared.ImplTypeStep.TheVariants as step
-use Rattle.impltypes.specs.declared.WalkAnswer.{WalkAnswer}
-use Rattle.impltypes.specs.declared.WalkAnswer.TheVariants as walk
 use Rattle.cursors.specs.Numbers.{number_of, Next, next_by, Step, yielded, ended, Counting, with_number}
 use Rattle.impltypes.specs.Search.{some_below, first_below}
 use Rattle.typelib.specs.Tables.{lent, segment_of, place_in, table_of}
@@ -144,14 +142,6 @@ cursor_at s c k = over_impl_types.cursor (stands_at s (over_impl_types.stands c)
 
 -- ---- what each answer tells
 
-abbrev pub told_impl_types : ImplTypesAnswer → Answer ImplTypeCursor
-told_impl_types (types.Value c) = value c
-told_impl_types (types.Refused n) = refused n
-
-abbrev pub told_impl_type_step : ImplTypeStep → Step Place ImplTypeCursor
-told_impl_type_step (step.Record r number c) = yielded (record { at = r.at; len = r.len }) number c
-told_impl_type_step (step.Refused n c) = ended n c
-
-abbrev pub told_walk : WalkAnswer → Answer ℕ
-told_walk (walk.Took n) = value n
-told_walk (walk.Refused n) = refused n
+abbrev pub told_impl_type_step : StepOf RefRecord ImplTypeCursor → Step Place ImplTypeCursor
+told_impl_type_step (Record r number c) = yielded (record { at = r.at; len = r.len }) number c
+told_impl_type_step (Refused e c) = ended (refusal_number e) c

@@ -20,11 +20,8 @@ use Rattle.typelib.specs.Tables.{lent, negative, segment_of, in_table, place_in,
 use Rattle.typelib.specs.TableLaws.{lent_fits, in-table, found_in}
 use Rattle.typelib.specs.Tabulate.{tabulate, length-tabulate, get_d_tabulate}
 use Rattle.cursors.specs.Numbers.{largest, number_of, item, stop, yielded, ended}
-use Rattle.cursors.specs.NumberLaws.{number-most, number-next, without, as_before, by-stops, step-found, After, counts, Numbered, number-after}
-use Rattle.cursors.specs.NumberLaws.{step-none}
-use Rattle.cursors.specs.NumberLaws.{again as ends-again}
-use Rattle.impltypes.specs.Chain.{ChainAt, over_impl_types, reference_table, impl_types_of, reference_at, onext, impl_type_next_from, impl_type_next, impl_type_step, is_refused}
-use Rattle.impltypes.specs.Chain.{offset_at, ends_at, returns_at, taken, walk_from, place_at, records_from, stands_at, Passes, Length, Circle, walk_of, cursor_at}
+use Rattle.cursors.specs.NumberLaws.{number-most, number-next, without, as_before, by-stops, step-found, After, counts, Numbered, number-after, again as ends-again, step-none}
+use Rattle.impltypes.specs.Chain.{ChainAt, over_impl_types, reference_table, impl_types_of, reference_at, onext, impl_type_next_from, impl_type_next, impl_type_step, is_refused, offset_at, ends_at, returns_at, taken, walk_from, place_at, records_from, stands_at, Passes, Length, Circle, walk_of, cursor_at}
 
 -- ---- places in a table
 
@@ -57,13 +54,6 @@ ends-empty : (s : List ℕ) (c : ChainAt) → c.table.len ≡ 0 → (k : ℕ) �
 unfolding ends_at
 ends-empty s c z k = place-empty s c.table (offset_at s c k) z
 
--- ---- where a chain starts
-
-pub types-value : (s : List ℕ) (lib : TypeLib) (ti : TypeInfoEntry) (offset : ℕ) (table : Place) → value offset ≡ field type_info_base "datatype1" s ti.at ti.len → table ≡ reference_table lib → value (record { table = table; next = offset; yielded = 0 }) ≡ impl_types_of s lib ti
-types-value s lib ti offset table e h =
-    ap (λ (t : Place). value (record { table = t; next = offset; yielded = 0 })) h
-    ∙ ap (map (λ (x : ℕ). record { table = reference_table lib; next = x; yielded = 0 })) e
-
 -- ---- one step
 
 module _ (s : List ℕ) where
@@ -76,16 +66,6 @@ module _ (s : List ℕ) where
   next-stays d = by-stops d _ _ (lent s (reference_at s d.table d.next))
 
   module _ (c : ImplTypeCursor) where
-    pub chain-none : (n : ℕ) → refused n ≡ lent s (reference_at s c.table c.next) → ended n c ≡ impl_type_step s c
-    chain-none n e = step-none over_impl_types (impl_type_next s) c n (next-is (over_impl_types.stands c) (refused n) e)
-
-    pub chain-record : (p : Place) (next number : ℕ) → length s ≤ limit → value p ≡ reference_at s c.table c.next → next ≡ onext s p.at
-        → number ≡ number_of (c.yielded + 1) → yielded p c.yielded (record { table = c.table; next = next; yielded = number }) ≡ impl_type_step s c
-    chain-record p next number h e q =
-        step-found over_impl_types (impl_type_next s) c p (record { table = c.table; next = next }) number
-        (ap (λ (x : ℕ). item p (record { table = c.table; next = x })) q
-        ∙ next-is (over_impl_types.stands c) (value p) (lent_fits s _ (value p) h e))
-
     -- A CURSOR THAT HAS YIELDED NOTHING came back unchanged, its count too, so it yields nothing again over the same bytes
     pub impl_type-again : (d : ImplTypeCursor) (m : ℕ) → ended m d ≡ impl_type_step s c → (d ≡ c) × (ended m d ≡ impl_type_step s d)
     impl_type-again d m = ends-again over_impl_types (impl_type_next s) c d m (next-stays (over_impl_types.stands c))
@@ -388,3 +368,22 @@ no_table s lib ti c n h missing = by (field type_info_base "datatype1" s ti.at t
         let q : c ≡ record { table = reference_table lib; next = offset; yielded = 0 } = cc in
         walk-empty s (over_impl_types.stands c) h (ap (λ (x : ImplTypeCursor). x.table.len) q ∙ ap (λ (a : Answer Place). (table_of a).len) missing)
     by (refused m) e = let z : ◌≡◌ {A = ℕ} 0 1 = cc in absurd (omega arith)
+
+-- ---- the same by cases
+
+pub types-value : (s : List ℕ) (lib : TypeLib) (ti : TypeInfoEntry) (offset : ℕ) (table : Place) → value offset ≡ field type_info_base "datatype1" s ti.at ti.len → table ≡ reference_table lib → value (record { table = table; next = offset; yielded = 0 }) ≡ impl_types_of s lib ti
+types-value s lib ti offset table e h =
+    ap (λ (t : Place). value (record { table = t; next = offset; yielded = 0 })) h
+    ∙ ap (map (λ (x : ℕ). record { table = reference_table lib; next = x; yielded = 0 })) e
+
+module _ (s : List ℕ) where
+  module _ (c : ImplTypeCursor) where
+    pub chain-none : (n : ℕ) → refused n ≡ lent s (reference_at s c.table c.next) → ended n c ≡ impl_type_step s c
+    chain-none n e = step-none over_impl_types (impl_type_next s) c n (next-is s (over_impl_types.stands c) (refused n) e)
+
+    pub chain-record : (p : Place) (next number : ℕ) → length s ≤ limit → value p ≡ reference_at s c.table c.next → next ≡ onext s p.at
+        → number ≡ number_of (c.yielded + 1) → yielded p c.yielded (record { table = c.table; next = next; yielded = number }) ≡ impl_type_step s c
+    chain-record p next number h e q =
+        step-found over_impl_types (impl_type_next s) c p (record { table = c.table; next = next }) number
+        (ap (λ (x : ℕ). item p (record { table = c.table; next = x })) q
+        ∙ next-is s (over_impl_types.stands c) (value p) (lent_fits s _ (value p) h e))

@@ -16,7 +16,7 @@ use replies::reply;
 pub extern "C" fn msft_arraydesc_element_type(s: &[u8], at: usize, len: usize) -> i64
     ensures { result ≡ reply (bits32 (signed32 (field array_desc "element type" s.now at len))) }
 {
-    reply::of_i32(ArrayDesc { at, len }.element_type(s))
+    reply::of(ArrayDesc { at, len }.element_type(s))
 }
 
 // The number of dimensions.
@@ -24,14 +24,14 @@ pub extern "C" fn msft_arraydesc_element_type(s: &[u8], at: usize, len: usize) -
 pub extern "C" fn msft_arraydesc_num_dims(s: &[u8], at: usize, len: usize) -> i64
     ensures { result ≡ reply (field array_desc "dimensions" s.now at len) }
 {
-    reply::of_u16(ArrayDesc { at, len }.num_dims(s))
+    reply::of(ArrayDesc { at, len }.num_dims(s))
 }
 
 #[unsafe(no_mangle)]
 pub extern "C" fn msft_arraydesc_flags(s: &[u8], at: usize, len: usize) -> i64
     ensures { result ≡ reply (field array_desc "flags" s.now at len) }
 {
-    reply::of_u16(ArrayDesc { at, len }.flags(s))
+    reply::of(ArrayDesc { at, len }.flags(s))
 }
 
 // The bounds of dimension `index`, counted from 0.
@@ -45,7 +45,7 @@ pub extern "C" fn msft_arraydesc_bound(
 ) -> i64
     ensures { outcome result out.new ≡ laid (map bound (bound_of index s.now at len)) out.old }
 {
-    reply::lay(rows::of_bound(ArrayDesc { at, len }.bound(s, index)), out)
+    reply::lay(rows::of(ArrayDesc { at, len }.bound(s, index)), out)
 }
 
 // The descriptor's length with its bounds, by its count of dimensions.
@@ -53,5 +53,5 @@ pub extern "C" fn msft_arraydesc_bound(
 pub extern "C" fn msft_arraydesc_size(s: &[u8], at: usize, len: usize, out: &mut [u8]) -> i64
     ensures { outcome result out.new ≡ laid (array_desc_size_row s.now at len) out.old }
 {
-    reply::lay(rows::of_size(ArrayDesc { at, len }.size(s)), out)
+    reply::lay(rows::of(ArrayDesc { at, len }.size(s)), out)
 }

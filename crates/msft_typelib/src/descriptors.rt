@@ -15,9 +15,10 @@ use typelib::TypeLib;
 pub extern "C" fn msft_type_desc(s: &[u8], offset: i32, out: &mut [u8]) -> i64
     ensures { outcome result out.new ≡ laid (type_desc_row s.now (of_z w32 offset)) out.old }
 {
-    let p = TypeLib::parse(s);
-    let lib = p.lib;
-    reply::lay_behind(p.number, rows::of_pair(lib.type_desc(s, offset)), out)
+    reply::lay(
+        rows::of(TypeLib::parse(s).and_then(|lib| lib.type_desc(s, offset))),
+        out,
+    )
 }
 
 // The array descriptor at an offset, with its bounds.
@@ -25,11 +26,8 @@ pub extern "C" fn msft_type_desc(s: &[u8], offset: i32, out: &mut [u8]) -> i64
 pub extern "C" fn msft_array_desc(s: &[u8], offset: i32, out: &mut [u8]) -> i64
     ensures { outcome result out.new ≡ laid (array_desc_row s.now (of_z w32 offset)) out.old }
 {
-    let p = TypeLib::parse(s);
-    let lib = p.lib;
-    reply::lay_behind(
-        p.number,
-        rows::of_array_desc(lib.array_desc(s, offset)),
+    reply::lay(
+        rows::of_record(TypeLib::parse(s).and_then(|lib| lib.array_desc(s, offset))),
         out,
     )
 }
@@ -39,11 +37,8 @@ pub extern "C" fn msft_array_desc(s: &[u8], offset: i32, out: &mut [u8]) -> i64
 pub extern "C" fn msft_type_description(s: &[u8], datatype: i32, out: &mut [u8]) -> i64
     ensures { outcome result out.new ≡ laid (type_description_row s.now (of_z w32 datatype)) out.old }
 {
-    let p = TypeLib::parse(s);
-    let lib = p.lib;
-    reply::lay_behind(
-        p.number,
-        rows::of_description(lib.type_description(s, datatype)),
+    reply::lay(
+        rows::of(TypeLib::parse(s).and_then(|lib| lib.type_description(s, datatype))),
         out,
     )
 }
@@ -53,9 +48,10 @@ pub extern "C" fn msft_type_description(s: &[u8], datatype: i32, out: &mut [u8])
 pub extern "C" fn msft_imp_file(s: &[u8], offset: i32, out: &mut [u8]) -> i64
     ensures { outcome result out.new ≡ laid (imp_file_row s.now (of_z w32 offset)) out.old }
 {
-    let p = TypeLib::parse(s);
-    let lib = p.lib;
-    reply::lay_behind(p.number, rows::of_imp_file(lib.imp_file(s, offset)), out)
+    reply::lay(
+        rows::of_record(TypeLib::parse(s).and_then(|lib| lib.imp_file(s, offset))),
+        out,
+    )
 }
 
 // The index of the typeinfo that an internal hreftype refers to.
@@ -63,11 +59,8 @@ pub extern "C" fn msft_imp_file(s: &[u8], offset: i32, out: &mut [u8]) -> i64
 pub extern "C" fn msft_resolve_hreftype(s: &[u8], hreftype: i32, out: &mut [u8]) -> i64
     ensures { outcome result out.new ≡ laid (href_index_row s.now (of_z w32 hreftype)) out.old }
 {
-    let p = TypeLib::parse(s);
-    let lib = p.lib;
-    reply::lay_behind(
-        p.number,
-        rows::of_index(lib.resolve_hreftype(hreftype)),
+    reply::lay(
+        rows::of(TypeLib::parse(s).and_then(|lib| lib.resolve_hreftype(hreftype))),
         out,
     )
 }
@@ -77,11 +70,8 @@ pub extern "C" fn msft_resolve_hreftype(s: &[u8], hreftype: i32, out: &mut [u8])
 pub extern "C" fn msft_resolve_hreftype_full(s: &[u8], hreftype: i32, out: &mut [u8]) -> i64
     ensures { outcome result out.new ≡ laid (href_row s.now (of_z w32 hreftype)) out.old }
 {
-    let p = TypeLib::parse(s);
-    let lib = p.lib;
-    reply::lay_behind(
-        p.number,
-        rows::of_resolved(lib.resolve_hreftype_full(s, hreftype)),
+    reply::lay(
+        rows::of(TypeLib::parse(s).and_then(|lib| lib.resolve_hreftype_full(s, hreftype))),
         out,
     )
 }
@@ -91,7 +81,7 @@ pub extern "C" fn msft_resolve_hreftype_full(s: &[u8], hreftype: i32, out: &mut 
 pub extern "C" fn msft_misplaced_offset(hreftype: i32) -> i64
     ensures { result ≡ reply (misplaced_offset (of_z w32 hreftype)) }
 {
-    reply::of_offset(references::misplaced_offset(hreftype))
+    reply::of(references::misplaced_offset(hreftype))
 }
 
 // The constant that a record's word gives: inline where the word is negative, else at that offset
@@ -100,11 +90,8 @@ pub extern "C" fn msft_misplaced_offset(hreftype: i32) -> i64
 pub extern "C" fn msft_const_value(s: &[u8], word: i32, out: &mut [u8]) -> i64
     ensures { outcome result out.new ≡ laid (constant_row s.now (of_z w32 word)) out.old }
 {
-    let p = TypeLib::parse(s);
-    let lib = p.lib;
-    reply::lay_behind(
-        p.number,
-        rows::of_const(constants::const_value(lib, s, word)),
+    reply::lay(
+        rows::of(TypeLib::parse(s).and_then(|lib| constants::const_value(lib, s, word))),
         out,
     )
 }

@@ -15,28 +15,28 @@ use replies::reply;
 pub extern "C" fn msft_guid_as_bytes(s: &[u8], at: usize, len: usize, out: &mut [u8]) -> i64
     ensures { outcome result out.new ≡ laid (map place (record_place (size_of guid) s.now at len)) out.old }
 {
-    reply::lay(rows::of_place(Guid { at, len }.as_bytes(s)), out)
+    reply::lay(rows::of(Guid { at, len }.as_bytes(s)), out)
 }
 
 #[unsafe(no_mangle)]
 pub extern "C" fn msft_guid_data1(s: &[u8], at: usize, len: usize) -> i64
     ensures { result ≡ reply (field guid "Data1" s.now at len) }
 {
-    reply::of_u32(Guid { at, len }.data1(s))
+    reply::of(Guid { at, len }.data1(s))
 }
 
 #[unsafe(no_mangle)]
 pub extern "C" fn msft_guid_data2(s: &[u8], at: usize, len: usize) -> i64
     ensures { result ≡ reply (field guid "Data2" s.now at len) }
 {
-    reply::of_u16(Guid { at, len }.data2(s))
+    reply::of(Guid { at, len }.data2(s))
 }
 
 #[unsafe(no_mangle)]
 pub extern "C" fn msft_guid_data3(s: &[u8], at: usize, len: usize) -> i64
     ensures { result ≡ reply (field guid "Data3" s.now at len) }
 {
-    reply::of_u16(Guid { at, len }.data3(s))
+    reply::of(Guid { at, len }.data3(s))
 }
 
 // The place of the last eight bytes.
@@ -44,7 +44,7 @@ pub extern "C" fn msft_guid_data3(s: &[u8], at: usize, len: usize) -> i64
 pub extern "C" fn msft_guid_data4(s: &[u8], at: usize, len: usize, out: &mut [u8]) -> i64
     ensures { outcome result out.new ≡ laid (map place (place_of guid "Data4" s.now at len)) out.old }
 {
-    reply::lay(rows::of_place(Guid { at, len }.data4(s)), out)
+    reply::lay(rows::of(Guid { at, len }.data4(s)), out)
 }
 
 // The text form, `{XXXXXXXX-XXXX-XXXX-XXXX-XXXXXXXXXXXX}`.

@@ -13,7 +13,7 @@ use cursors::iterators;
 use cursors::iterators::{FuncCursor, ParamCursor, VarCursor};
 use impltypes::ImplTypeCursor;
 use member_records::func::FuncRecord;
-use records::answer::{Place, UsizeAnswer};
+use records::answer::Place;
 use records::typeinfo::TypeInfoEntry;
 use replies::reply;
 use table_cursors::iterators::{
@@ -27,7 +27,7 @@ pub extern "C" fn msft_funcs(s: &[u8], at: usize, len: usize, out: &mut [u8]) ->
     ensures { outcome result out.new ≡ laid (map (cursor func_numbers) (funcs_of s.now (typeinfo_at at len))) out.old }
 {
     reply::lay(
-        rows::of_funcs(iterators::funcs(s, TypeInfoEntry { at, len })),
+        rows::of_cursor(iterators::funcs(s, TypeInfoEntry { at, len })),
         out,
     )
 }
@@ -38,7 +38,7 @@ pub extern "C" fn msft_vars(s: &[u8], at: usize, len: usize, out: &mut [u8]) -> 
     ensures { outcome result out.new ≡ laid (map (cursor var_numbers) (vars_of s.now (typeinfo_at at len))) out.old }
 {
     reply::lay(
-        rows::of_vars(iterators::vars(s, TypeInfoEntry { at, len })),
+        rows::of_cursor(iterators::vars(s, TypeInfoEntry { at, len })),
         out,
     )
 }
@@ -49,7 +49,7 @@ pub extern "C" fn msft_params(s: &[u8], at: usize, len: usize, out: &mut [u8]) -
     ensures { outcome result out.new ≡ laid (map (cursor param_numbers) (params_of s.now (func_at at len))) out.old }
 {
     reply::lay(
-        rows::of_params(iterators::params(s, FuncRecord { at, len })),
+        rows::of_cursor(iterators::params(s, FuncRecord { at, len })),
         out,
     )
 }
@@ -59,11 +59,8 @@ pub extern "C" fn msft_params(s: &[u8], at: usize, len: usize, out: &mut [u8]) -
 pub extern "C" fn msft_guids(s: &[u8], out: &mut [u8]) -> i64
     ensures { outcome result out.new ≡ laid (guids_row s.now) out.old }
 {
-    let p = TypeLib::parse(s);
-    let lib = p.lib;
-    reply::lay_behind(
-        p.number,
-        rows::of_guids(table_cursors::iterators::guids(lib, s)),
+    reply::lay(
+        rows::of_cursor(TypeLib::parse(s).and_then(|lib| table_cursors::iterators::guids(lib, s))),
         out,
     )
 }
@@ -73,11 +70,10 @@ pub extern "C" fn msft_guids(s: &[u8], out: &mut [u8]) -> i64
 pub extern "C" fn msft_imports(s: &[u8], out: &mut [u8]) -> i64
     ensures { outcome result out.new ≡ laid (imports_row s.now) out.old }
 {
-    let p = TypeLib::parse(s);
-    let lib = p.lib;
-    reply::lay_behind(
-        p.number,
-        rows::of_imports(table_cursors::iterators::imports(lib, s)),
+    reply::lay(
+        rows::of_cursor(TypeLib::parse(s).and_then(|lib| table_cursors::iterators::imports(
+            lib, s,
+        ))),
         out,
     )
 }
@@ -87,11 +83,10 @@ pub extern "C" fn msft_imports(s: &[u8], out: &mut [u8]) -> i64
 pub extern "C" fn msft_imp_files(s: &[u8], out: &mut [u8]) -> i64
     ensures { outcome result out.new ≡ laid (imp_files_row s.now) out.old }
 {
-    let p = TypeLib::parse(s);
-    let lib = p.lib;
-    reply::lay_behind(
-        p.number,
-        rows::of_imp_files(table_cursors::iterators::imp_files(lib, s)),
+    reply::lay(
+        rows::of_cursor(TypeLib::parse(s).and_then(|lib| table_cursors::iterators::imp_files(
+            lib, s,
+        ))),
         out,
     )
 }
@@ -101,11 +96,8 @@ pub extern "C" fn msft_imp_files(s: &[u8], out: &mut [u8]) -> i64
 pub extern "C" fn msft_names(s: &[u8], out: &mut [u8]) -> i64
     ensures { outcome result out.new ≡ laid (names_row s.now) out.old }
 {
-    let p = TypeLib::parse(s);
-    let lib = p.lib;
-    reply::lay_behind(
-        p.number,
-        rows::of_names(table_cursors::iterators::names(lib, s)),
+    reply::lay(
+        rows::of_cursor(TypeLib::parse(s).and_then(|lib| table_cursors::iterators::names(lib, s))),
         out,
     )
 }
@@ -115,11 +107,12 @@ pub extern "C" fn msft_names(s: &[u8], out: &mut [u8]) -> i64
 pub extern "C" fn msft_impl_types(s: &[u8], at: usize, len: usize, out: &mut [u8]) -> i64
     ensures { outcome result out.new ≡ laid (impl_types_row s.now (typeinfo_at at len)) out.old }
 {
-    let p = TypeLib::parse(s);
-    let lib = p.lib;
-    reply::lay_behind(
-        p.number,
-        rows::of_impl_types(impltypes::impl_types(lib, s, TypeInfoEntry { at, len })),
+    reply::lay(
+        rows::of(TypeLib::parse(s).and_then(|lib| impltypes::impl_types(
+            lib,
+            s,
+            TypeInfoEntry { at, len },
+        ))),
         out,
     )
 }
@@ -136,7 +129,7 @@ pub extern "C" fn msft_func_step(
     ensures { outcome result out.new ≡ laid (func_step_row s.now (funcs_at pos end remaining yielded)) out.old }
 {
     reply::lay(
-        rows::of_func_step(FuncCursor {
+        rows::steps::of_step(FuncCursor {
             pos,
             end,
             remaining,
@@ -159,7 +152,7 @@ pub extern "C" fn msft_var_step(
     ensures { outcome result out.new ≡ laid (var_step_row s.now (vars_at pos end remaining yielded)) out.old }
 {
     reply::lay(
-        rows::of_var_step(VarCursor {
+        rows::steps::of_step(VarCursor {
             pos,
             end,
             remaining,
@@ -182,7 +175,7 @@ pub extern "C" fn msft_param_step(
     ensures { outcome result out.new ≡ laid (param_step_row s.now (params_at pos end remaining yielded)) out.old }
 {
     reply::lay(
-        rows::of_param_step(ParamCursor {
+        rows::steps::of_step(ParamCursor {
             pos,
             end,
             remaining,
@@ -204,7 +197,7 @@ pub extern "C" fn msft_guid_step(
     ensures { outcome result out.new ≡ laid (step guid_numbers (guid_step s.now (guids_at pos end yielded))) out.old }
 {
     reply::lay(
-        rows::of_guid_step(GuidCursor { pos, end, yielded }.step(s)),
+        rows::steps::of_step(GuidCursor { pos, end, yielded }.step(s)),
         out,
     )
 }
@@ -220,7 +213,7 @@ pub extern "C" fn msft_import_step(
     ensures { outcome result out.new ≡ laid (step import_numbers (import_step s.now (imports_at pos end yielded))) out.old }
 {
     reply::lay(
-        rows::of_import_step(ImportCursor { pos, end, yielded }.step(s)),
+        rows::steps::of_step(ImportCursor { pos, end, yielded }.step(s)),
         out,
     )
 }
@@ -236,7 +229,7 @@ pub extern "C" fn msft_imp_file_step(
     ensures { outcome result out.new ≡ laid (imp_file_step_row s.now (imp_files_at pos end yielded)) out.old }
 {
     reply::lay(
-        rows::of_imp_file_step(ImpFileCursor { pos, end, yielded }.step(s)),
+        rows::steps::of_step(ImpFileCursor { pos, end, yielded }.step(s)),
         out,
     )
 }
@@ -253,7 +246,7 @@ pub extern "C" fn msft_name_step(
     ensures { outcome result out.new ≡ laid (entry_step (name_step s.now (names_at pos end start yielded))) out.old }
 {
     reply::lay(
-        rows::of_name_step(NameCursor {
+        rows::steps::of_name_step(NameCursor {
             pos,
             end,
             start,
@@ -268,11 +261,8 @@ pub extern "C" fn msft_name_step(
 pub extern "C" fn msft_typeinfo_step(s: &[u8], index: usize, out: &mut [u8]) -> i64
     ensures { outcome result out.new ≡ laid (typeinfo_step_row s.now (typeinfos_at index)) out.old }
 {
-    let p = TypeLib::parse(s);
-    let lib = p.lib;
-    reply::lay_behind(
-        p.number,
-        rows::of_typeinfo_step(typeinfos_from(index).step(s, lib)),
+    reply::lay(
+        TypeLib::parse(s).and_then(|lib| rows::steps::of_step(typeinfos_from(index).step(s, lib))),
         out,
     )
 }
@@ -289,7 +279,7 @@ pub extern "C" fn msft_impl_type_step(
     ensures { outcome result out.new ≡ laid (chain_step (impl_type_step s.now (chain_at at len next yielded))) out.old }
 {
     reply::lay(
-        rows::of_impl_type_step(ImplTypeCursor {
+        rows::steps::of_impl_type_step(ImplTypeCursor {
             table: Place { at, len },
             next,
             yielded,
@@ -311,7 +301,7 @@ pub extern "C" fn msft_walk(
     ensures { outcome result out.new ≡ laid (map size (walk_of s.now (chain_at at len next yielded))) out.old }
 {
     reply::lay(
-        rows::of_walk(ImplTypeCursor {
+        rows::of(ImplTypeCursor {
             table: Place { at, len },
             next,
             yielded,
@@ -326,9 +316,8 @@ pub extern "C" fn msft_walk(
 pub extern "C" fn msft_typeinfos(s: &[u8], out: &mut [u8]) -> i64
     ensures { outcome result out.new ≡ laid (typeinfos_row s.now) out.old }
 {
-    reply::lay_behind(
-        reply::refusal(s),
-        rows::of_typeinfos(table_cursors::iterators::typeinfos(s)),
+    reply::lay(
+        rows::of_cursor(TypeLib::parse(s).and_then(|_| table_cursors::iterators::typeinfos(s))),
         out,
     )
 }
@@ -338,10 +327,10 @@ pub extern "C" fn msft_typeinfos(s: &[u8], out: &mut [u8]) -> i64
 pub extern "C" fn msft_typeinfo_size_hint(s: &[u8], index: usize, out: &mut [u8]) -> i64
     ensures { outcome result out.new ≡ laid (types_left_row s.now index) out.old }
 {
-    let p = TypeLib::parse(s);
-    let lib = p.lib;
-    let left = typeinfos_from(index).size_hint(lib);
-    reply::lay_behind(p.number, rows::of_size(UsizeAnswer::Value(left)), out)
+    reply::lay(
+        rows::of(TypeLib::parse(s).map(|lib| typeinfos_from(index).size_hint(lib))),
+        out,
+    )
 }
 
 // The cursor over typeinfos at an index.

@@ -8,9 +8,10 @@ ghost use Rattle.sheet_sizes.specs.Told.{told_figures};
 ghost use Rattle.msft_typelib.specs.Rows.{figures_row};
 ghost use Rattle.msft_typelib.specs.Sheets.{Sheeted};
 
+use records::answer::Refusal;
 use replies::reply;
 use rows::row::Row;
-use sheet_sizes::FiguresAnswer;
+use sheet_sizes::SheetFigures;
 
 // Writes the library's sheet to the front of the output and replies how many bytes it has; or replies
 // minus the refusal's number and writes nothing.
@@ -29,18 +30,16 @@ pub extern "C" fn msft_sheet_figures(s: &[u8], out: &mut [u8]) -> i64
     reply::lay(of_figures(sheet_sizes::figures(s)), out)
 }
 
-// (Here and not among `rows`, which are below the sheet.)
-fn of_figures(a: FiguresAnswer) -> Row
-    ensures { told_row result ≡ map figures (told_figures a) }
+// (Here and not among `rows`, which are below the sheet. Its contract tells the row by its bytes, as `reply::lay` asks for it.)
+fn of_figures(answer: Result<SheetFigures, Refusal>) -> Result<Row, Refusal>
+    ensures { told_row result ≡ map figures (told_figures answer) }
 {
-    match a {
-        FiguresAnswer::Value(f) => Row::Figures(
-            f.length,
-            f.functions,
-            f.parameters,
-            f.variables,
-            f.references,
-        ),
-        FiguresAnswer::Refused(n) => Row::Refused(n),
-    }
+    let f = answer?;
+    Ok(Row::Figures(
+        f.length,
+        f.functions,
+        f.parameters,
+        f.variables,
+        f.references,
+    ))
 }

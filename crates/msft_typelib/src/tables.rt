@@ -13,9 +13,10 @@ use typelib::TypeLib;
 pub extern "C" fn msft_segment(s: &[u8], index: usize, out: &mut [u8]) -> i64
     ensures { outcome result out.new ≡ laid (segment_row s.now index) out.old }
 {
-    let p = TypeLib::parse(s);
-    let lib = p.lib;
-    reply::lay_behind(p.number, rows::of_place(lib.segment(index)), out)
+    reply::lay(
+        rows::of(TypeLib::parse(s).and_then(|lib| lib.segment(index))),
+        out,
+    )
 }
 
 // A name's bytes, in the code page the library was built in.
@@ -23,9 +24,10 @@ pub extern "C" fn msft_segment(s: &[u8], index: usize, out: &mut [u8]) -> i64
 pub extern "C" fn msft_name_bytes(s: &[u8], offset: i32, out: &mut [u8]) -> i64
     ensures { outcome result out.new ≡ laid (name_bytes_row s.now (of_z w32 offset)) out.old }
 {
-    let p = TypeLib::parse(s);
-    let lib = p.lib;
-    reply::lay_behind(p.number, rows::of_place(lib.name_bytes(s, offset)), out)
+    reply::lay(
+        rows::of(TypeLib::parse(s).and_then(|lib| lib.name_bytes(s, offset))),
+        out,
+    )
 }
 
 // A name, where it is UTF-8.
@@ -33,9 +35,10 @@ pub extern "C" fn msft_name_bytes(s: &[u8], offset: i32, out: &mut [u8]) -> i64
 pub extern "C" fn msft_name(s: &[u8], offset: i32, out: &mut [u8]) -> i64
     ensures { outcome result out.new ≡ laid (name_row s.now (of_z w32 offset)) out.old }
 {
-    let p = TypeLib::parse(s);
-    let lib = p.lib;
-    reply::lay_behind(p.number, rows::of_place(lib.name(s, offset)), out)
+    reply::lay(
+        rows::of(TypeLib::parse(s).and_then(|lib| lib.name(s, offset))),
+        out,
+    )
 }
 
 // A string of the string table, where it is UTF-8.
@@ -43,9 +46,10 @@ pub extern "C" fn msft_name(s: &[u8], offset: i32, out: &mut [u8]) -> i64
 pub extern "C" fn msft_string(s: &[u8], offset: i32, out: &mut [u8]) -> i64
     ensures { outcome result out.new ≡ laid (string_row s.now (of_z w32 offset)) out.old }
 {
-    let p = TypeLib::parse(s);
-    let lib = p.lib;
-    reply::lay_behind(p.number, rows::of_place(lib.string(s, offset)), out)
+    reply::lay(
+        rows::of(TypeLib::parse(s).and_then(|lib| lib.string(s, offset))),
+        out,
+    )
 }
 
 // The GUID at an offset of its table.
@@ -53,9 +57,10 @@ pub extern "C" fn msft_string(s: &[u8], offset: i32, out: &mut [u8]) -> i64
 pub extern "C" fn msft_guid(s: &[u8], offset: i32, out: &mut [u8]) -> i64
     ensures { outcome result out.new ≡ laid (guid_row s.now (of_z w32 offset)) out.old }
 {
-    let p = TypeLib::parse(s);
-    let lib = p.lib;
-    reply::lay_behind(p.number, rows::of_guid(lib.guid(s, offset)), out)
+    reply::lay(
+        rows::of_record(TypeLib::parse(s).and_then(|lib| lib.guid(s, offset))),
+        out,
+    )
 }
 
 // The bytes of a segment; 9 where it is missing or passes the file's end.
@@ -63,27 +68,30 @@ pub extern "C" fn msft_guid(s: &[u8], offset: i32, out: &mut [u8]) -> i64
 pub extern "C" fn msft_segment_data(s: &[u8], index: usize, out: &mut [u8]) -> i64
     ensures { outcome result out.new ≡ laid (segment_data_row s.now index) out.old }
 {
-    let p = TypeLib::parse(s);
-    let lib = p.lib;
-    reply::lay_behind(p.number, rows::of_place(lib.segment_data(s, index)), out)
+    reply::lay(
+        rows::of(TypeLib::parse(s).and_then(|lib| lib.segment_data(s, index))),
+        out,
+    )
 }
 
 #[unsafe(no_mangle)]
 pub extern "C" fn msft_guid_hash_data(s: &[u8], out: &mut [u8]) -> i64
     ensures { outcome result out.new ≡ laid (segment_data_row s.now 4) out.old }
 {
-    let p = TypeLib::parse(s);
-    let lib = p.lib;
-    reply::lay_behind(p.number, rows::of_place(lib.guid_hash_data(s)), out)
+    reply::lay(
+        rows::of(TypeLib::parse(s).and_then(|lib| lib.guid_hash_data(s))),
+        out,
+    )
 }
 
 #[unsafe(no_mangle)]
 pub extern "C" fn msft_name_hash_data(s: &[u8], out: &mut [u8]) -> i64
     ensures { outcome result out.new ≡ laid (segment_data_row s.now 6) out.old }
 {
-    let p = TypeLib::parse(s);
-    let lib = p.lib;
-    reply::lay_behind(p.number, rows::of_place(lib.name_hash_data(s)), out)
+    reply::lay(
+        rows::of(TypeLib::parse(s).and_then(|lib| lib.name_hash_data(s))),
+        out,
+    )
 }
 
 // The library's own name, where it is UTF-8.
@@ -91,9 +99,10 @@ pub extern "C" fn msft_name_hash_data(s: &[u8], out: &mut [u8]) -> i64
 pub extern "C" fn msft_lib_name(s: &[u8], out: &mut [u8]) -> i64
     ensures { outcome result out.new ≡ laid (lib_name_row s.now) out.old }
 {
-    let p = TypeLib::parse(s);
-    let lib = p.lib;
-    reply::lay_behind(p.number, rows::of_place(lib.lib_name(s)), out)
+    reply::lay(
+        rows::of(TypeLib::parse(s).and_then(|lib| lib.lib_name(s))),
+        out,
+    )
 }
 
 // The library's own GUID.
@@ -101,9 +110,10 @@ pub extern "C" fn msft_lib_name(s: &[u8], out: &mut [u8]) -> i64
 pub extern "C" fn msft_lib_guid(s: &[u8], out: &mut [u8]) -> i64
     ensures { outcome result out.new ≡ laid (lib_guid_row s.now) out.old }
 {
-    let p = TypeLib::parse(s);
-    let lib = p.lib;
-    reply::lay_behind(p.number, rows::of_guid(lib.lib_guid(s)), out)
+    reply::lay(
+        rows::of_record(TypeLib::parse(s).and_then(|lib| lib.lib_guid(s))),
+        out,
+    )
 }
 
 // The library's help string, where it is UTF-8.
@@ -111,7 +121,8 @@ pub extern "C" fn msft_lib_guid(s: &[u8], out: &mut [u8]) -> i64
 pub extern "C" fn msft_lib_helpstring(s: &[u8], out: &mut [u8]) -> i64
     ensures { outcome result out.new ≡ laid (lib_helpstring_row s.now) out.old }
 {
-    let p = TypeLib::parse(s);
-    let lib = p.lib;
-    reply::lay_behind(p.number, rows::of_place(lib.lib_helpstring(s)), out)
+    reply::lay(
+        rows::of(TypeLib::parse(s).and_then(|lib| lib.lib_helpstring(s))),
+        out,
+    )
 }

@@ -14,23 +14,15 @@ use typelib::{TypeInfoIndex, TypeLib};
 pub extern "C" fn msft_typeinfo_offset(s: &[u8], index: usize) -> i64
     ensures { result ≡ reply (typeinfo_offset_bits s.now index) }
 {
-    let p = TypeLib::parse(s);
-    let lib = p.lib;
-    reply::behind(
-        p.number,
-        reply::of_offset(lib.typeinfo_offset(s, TypeInfoIndex(index))),
-    )
+    reply::of(TypeLib::parse(s).and_then(|lib| lib.typeinfo_offset(s, TypeInfoIndex(index))))
 }
 
 #[unsafe(no_mangle)]
 pub extern "C" fn msft_typeinfo(s: &[u8], index: usize, out: &mut [u8]) -> i64
     ensures { outcome result out.new ≡ laid (typeinfo_row s.now index) out.old }
 {
-    let p = TypeLib::parse(s);
-    let lib = p.lib;
-    reply::lay_behind(
-        p.number,
-        rows::of_typeinfo(lib.typeinfo(s, TypeInfoIndex(index))),
+    reply::lay(
+        rows::of_record(TypeLib::parse(s).and_then(|lib| lib.typeinfo(s, TypeInfoIndex(index)))),
         out,
     )
 }
@@ -40,7 +32,7 @@ pub extern "C" fn msft_typeinfo(s: &[u8], index: usize, out: &mut [u8]) -> i64
 pub extern "C" fn msft_func_memid(s: &[u8], at: usize, len: usize, index: usize) -> i64
     ensures { result ≡ reply (bits32 (signed32 (func_memid s.now (typeinfo_at at len) index))) }
 {
-    reply::of_i32(typelib::typeinfos::func_memid(s, TypeInfoEntry { at, len }, index))
+    reply::of(typelib::typeinfos::func_memid(s, TypeInfoEntry { at, len }, index))
 }
 
 // The member identifier of variable `index`.
@@ -48,7 +40,7 @@ pub extern "C" fn msft_func_memid(s: &[u8], at: usize, len: usize, index: usize)
 pub extern "C" fn msft_var_memid(s: &[u8], at: usize, len: usize, index: usize) -> i64
     ensures { result ≡ reply (bits32 (signed32 (var_memid s.now (typeinfo_at at len) index))) }
 {
-    reply::of_i32(typelib::typeinfos::var_memid(s, TypeInfoEntry { at, len }, index))
+    reply::of(typelib::typeinfos::var_memid(s, TypeInfoEntry { at, len }, index))
 }
 
 // The name offset of function `index`; -1 where it has no name of its own.
@@ -56,7 +48,7 @@ pub extern "C" fn msft_var_memid(s: &[u8], at: usize, len: usize, index: usize) 
 pub extern "C" fn msft_func_name_offset(s: &[u8], at: usize, len: usize, index: usize) -> i64
     ensures { result ≡ reply (bits32 (signed32 (func_name_offset s.now (typeinfo_at at len) index))) }
 {
-    reply::of_i32(typelib::typeinfos::func_name_offset(s, TypeInfoEntry { at, len }, index))
+    reply::of(typelib::typeinfos::func_name_offset(s, TypeInfoEntry { at, len }, index))
 }
 
 // The name offset of variable `index`.
@@ -64,7 +56,7 @@ pub extern "C" fn msft_func_name_offset(s: &[u8], at: usize, len: usize, index: 
 pub extern "C" fn msft_var_name_offset(s: &[u8], at: usize, len: usize, index: usize) -> i64
     ensures { result ≡ reply (bits32 (signed32 (var_name_offset s.now (typeinfo_at at len) index))) }
 {
-    reply::of_i32(typelib::typeinfos::var_name_offset(s, TypeInfoEntry { at, len }, index))
+    reply::of(typelib::typeinfos::var_name_offset(s, TypeInfoEntry { at, len }, index))
 }
 
 // The name of function `index`, where it is UTF-8.
@@ -78,11 +70,12 @@ pub extern "C" fn msft_func_name(
 ) -> i64
     ensures { outcome result out.new ≡ laid (func_name_row s.now (typeinfo_at at len) index) out.old }
 {
-    let p = TypeLib::parse(s);
-    let lib = p.lib;
-    reply::lay_behind(
-        p.number,
-        rows::of_place(lib.func_name(s, TypeInfoEntry { at, len }, index)),
+    reply::lay(
+        rows::of(TypeLib::parse(s).and_then(|lib| lib.func_name(
+            s,
+            TypeInfoEntry { at, len },
+            index,
+        ))),
         out,
     )
 }
@@ -98,11 +91,12 @@ pub extern "C" fn msft_var_name(
 ) -> i64
     ensures { outcome result out.new ≡ laid (var_name_row s.now (typeinfo_at at len) index) out.old }
 {
-    let p = TypeLib::parse(s);
-    let lib = p.lib;
-    reply::lay_behind(
-        p.number,
-        rows::of_place(lib.var_name(s, TypeInfoEntry { at, len }, index)),
+    reply::lay(
+        rows::of(TypeLib::parse(s).and_then(|lib| lib.var_name(
+            s,
+            TypeInfoEntry { at, len },
+            index,
+        ))),
         out,
     )
 }
@@ -113,11 +107,13 @@ pub extern "C" fn msft_var_name(
 pub extern "C" fn msft_member_name(s: &[u8], index: usize, k: usize, out: &mut [u8]) -> i64
     ensures { outcome result out.new ≡ laid (member_name_row s.now index k) out.old }
 {
-    let p = TypeLib::parse(s);
-    let lib = p.lib;
-    reply::lay_behind(
-        p.number,
-        rows::of_place(table_cursors::members::member_name(lib, s, TypeInfoIndex(index), k)),
+    reply::lay(
+        rows::of(TypeLib::parse(s).and_then(|lib| table_cursors::members::member_name(
+            lib,
+            s,
+            TypeInfoIndex(index),
+            k,
+        ))),
         out,
     )
 }

@@ -16,7 +16,7 @@ use replies::reply;
 pub extern "C" fn msft_var_from_raw(s: &[u8], at: usize, len: usize, out: &mut [u8]) -> i64
     ensures { outcome result out.new ≡ laid (map place (record_place (size_of var_record) s.now at len)) out.old }
 {
-    reply::lay(rows::of_var(VarRecord::from_raw(s, at, len)), out)
+    reply::lay(rows::of_record(VarRecord::from_raw(s, at, len)), out)
 }
 
 // The record's bytes.
@@ -24,7 +24,7 @@ pub extern "C" fn msft_var_from_raw(s: &[u8], at: usize, len: usize, out: &mut [
 pub extern "C" fn msft_var_as_bytes(s: &[u8], at: usize, len: usize, out: &mut [u8]) -> i64
     ensures { outcome result out.new ≡ laid (map place (record_place (size_of var_record) s.now at len)) out.old }
 {
-    reply::lay(rows::of_place(VarRecord { at, len }.as_bytes(s)), out)
+    reply::lay(rows::of(VarRecord { at, len }.as_bytes(s)), out)
 }
 
 // The record's size in its low 16 bits, and the member's index.
@@ -32,14 +32,14 @@ pub extern "C" fn msft_var_as_bytes(s: &[u8], at: usize, len: usize, out: &mut [
 pub extern "C" fn msft_var_info(s: &[u8], at: usize, len: usize) -> i64
     ensures { result ≡ reply (field var_record "Info" s.now at len) }
 {
-    reply::of_u32(VarRecord { at, len }.info(s))
+    reply::of(VarRecord { at, len }.info(s))
 }
 
 #[unsafe(no_mangle)]
 pub extern "C" fn msft_var_record_size(s: &[u8], at: usize, len: usize, out: &mut [u8]) -> i64
     ensures { outcome result out.new ≡ laid (record_size_row var_record s.now at len) out.old }
 {
-    reply::lay(rows::of_size(VarRecord { at, len }.record_size(s)), out)
+    reply::lay(rows::of(VarRecord { at, len }.record_size(s)), out)
 }
 
 // The variable's type field.
@@ -47,7 +47,7 @@ pub extern "C" fn msft_var_record_size(s: &[u8], at: usize, len: usize, out: &mu
 pub extern "C" fn msft_var_datatype(s: &[u8], at: usize, len: usize) -> i64
     ensures { result ≡ reply (bits32 (signed32 (field var_record "DataType" s.now at len))) }
 {
-    reply::of_i32(VarRecord { at, len }.datatype(s))
+    reply::of(VarRecord { at, len }.datatype(s))
 }
 
 // VARFLAG bits.
@@ -55,7 +55,7 @@ pub extern "C" fn msft_var_datatype(s: &[u8], at: usize, len: usize) -> i64
 pub extern "C" fn msft_var_flags(s: &[u8], at: usize, len: usize) -> i64
     ensures { result ≡ reply (field var_record "Flags" s.now at len) }
 {
-    reply::of_u32(VarRecord { at, len }.flags(s))
+    reply::of(VarRecord { at, len }.flags(s))
 }
 
 // VARKIND: 0 per instance, 1 static, 2 constant, 3 dispatch.
@@ -63,14 +63,14 @@ pub extern "C" fn msft_var_flags(s: &[u8], at: usize, len: usize) -> i64
 pub extern "C" fn msft_var_varkind(s: &[u8], at: usize, len: usize) -> i64
     ensures { result ≡ reply (bits16 (signed16 (field var_record "VarKind" s.now at len))) }
 {
-    reply::of_i16(VarRecord { at, len }.varkind(s))
+    reply::of(VarRecord { at, len }.varkind(s))
 }
 
 #[unsafe(no_mangle)]
 pub extern "C" fn msft_var_vardesc_size(s: &[u8], at: usize, len: usize) -> i64
     ensures { result ≡ reply (bits16 (signed16 (field var_record "vardescsize" s.now at len))) }
 {
-    reply::of_i16(VarRecord { at, len }.vardesc_size(s))
+    reply::of(VarRecord { at, len }.vardesc_size(s))
 }
 
 // Of a constant its value or the value's place, of any other variable its offset in the instance.
@@ -78,14 +78,14 @@ pub extern "C" fn msft_var_vardesc_size(s: &[u8], at: usize, len: usize) -> i64
 pub extern "C" fn msft_var_offs_value(s: &[u8], at: usize, len: usize) -> i64
     ensures { result ≡ reply (bits32 (signed32 (field var_record "OffsValue" s.now at len))) }
 {
-    reply::of_i32(VarRecord { at, len }.offs_value(s))
+    reply::of(VarRecord { at, len }.offs_value(s))
 }
 
 #[unsafe(no_mangle)]
 pub extern "C" fn msft_var_help_context(s: &[u8], at: usize, len: usize) -> i64
     ensures { result ≡ reply (bits32 (var_attribute "HelpContext" s.now at len)) }
 {
-    reply::of_i32(VarRecord { at, len }.help_context(s))
+    reply::of(VarRecord { at, len }.help_context(s))
 }
 
 // The offset of its help string in the string table.
@@ -93,14 +93,14 @@ pub extern "C" fn msft_var_help_context(s: &[u8], at: usize, len: usize) -> i64
 pub extern "C" fn msft_var_help_string_offset(s: &[u8], at: usize, len: usize) -> i64
     ensures { result ≡ reply (bits32 (var_attribute "HelpString" s.now at len)) }
 {
-    reply::of_i32(VarRecord { at, len }.help_string_offset(s))
+    reply::of(VarRecord { at, len }.help_string_offset(s))
 }
 
 #[unsafe(no_mangle)]
 pub extern "C" fn msft_var_res9(s: &[u8], at: usize, len: usize) -> i64
     ensures { result ≡ reply (bits32 (var_attribute "res9" s.now at len)) }
 {
-    reply::of_i32(VarRecord { at, len }.res9(s))
+    reply::of(VarRecord { at, len }.res9(s))
 }
 
 // The offset of its custom data in their directory.
@@ -108,12 +108,12 @@ pub extern "C" fn msft_var_res9(s: &[u8], at: usize, len: usize) -> i64
 pub extern "C" fn msft_var_cust_data_offset(s: &[u8], at: usize, len: usize) -> i64
     ensures { result ≡ reply (bits32 (var_attribute "oCustData" s.now at len)) }
 {
-    reply::of_i32(VarRecord { at, len }.cust_data_offset(s))
+    reply::of(VarRecord { at, len }.cust_data_offset(s))
 }
 
 #[unsafe(no_mangle)]
 pub extern "C" fn msft_var_helpstringcontext(s: &[u8], at: usize, len: usize) -> i64
     ensures { result ≡ reply (bits32 (var_attribute "HelpStringContext" s.now at len)) }
 {
-    reply::of_i32(VarRecord { at, len }.helpstringcontext(s))
+    reply::of(VarRecord { at, len }.helpstringcontext(s))
 }

@@ -1,6 +1,5 @@
 -- What a reading answers (document 01, "Numbers of refusal"). Assumes nothing.
-use Rattle.std.proofs.Math.Option.{Option, some, none}
-use Rattle.std.specs.Prelude.{ℕ}
+use Rattle.std.specs.Prelude.{ℕ, Option, Some, None}
 
 -- a value, or the number of the refusal
 pub data Answer (A : Type 0) : Type 0 where
@@ -18,5 +17,5 @@ bind (refused n) f = refused n
 
 -- refusal 9, "nothing there"
 abbrev pub or_nine : {A : Type 0} → Option A → Answer A
-or_nine (some a) = value a
-or_nine none = refused 9
+or_nine (Some a) = value a
+or_nine None = refused 9

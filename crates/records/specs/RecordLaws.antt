@@ -1,13 +1,14 @@
 -- Laws of `Record`, over the width, the offset and the fixed part. Assumes nothing.
 use Rattle.std.proofs.Math.Path.{◌≡◌, sym, ap}
-use Rattle.std.specs.Prelude.{refl, List, [], ℕ, ◌+◌, ◌/◌, ◌%◌, ◌^◌, ◌≤◌, ◌<◌, leb, ltb, length, drop}
+use Rattle.std.specs.Prelude.{refl, List, [], ℕ, ◌+◌, ◌/◌, ◌%◌, ◌^◌, ◌≤◌, ◌<◌, leb, ltb, length, drop, Option, Some, None, ok_or}
 use Rattle.std.proofs.Common.{◌∙◌, mod-lt, lt_of_lt_of_le, arith, pow_pos, pow_mono}
 use Rattle.std.proofs.Math.Bool.{cond}
-use Rattle.std.proofs.Math.Option.{some, none}
 use Rattle.std.proofs.Math.ListN.{take}
 use borrow.Author.Tests.{le-leb, lt-leb, le-ltb, lt-ltb, leb-true, ltb-false}
 use Rattle.util.specs.Read.{le, read, cond-elim, some_read, none_read}
 use Rattle.records.specs.declared.answer.Place.{Place}
+use Rattle.records.specs.declared.answer.Refusal.{Refusal}
+use Rattle.records.specs.Told.{told}
 use Rattle.records.specs.Answer.{Answer, value, refused, map, bind}
 use Rattle.records.specs.Record.{limit, held, field_place, field_at, part_of}
 
@@ -95,11 +96,19 @@ module _ (w fixed offset : ℕ) (s : List ℕ) (at len : ℕ) where
       no
 
   -- so its number is read
-  pub field-value : (p : Place) (x : ℕ) → value p ≡ field_place w fixed offset s at len → some x ≡ read w s p.at → value x ≡ field_at w fixed offset s at len
+  pub field-value : (p : Place) (x : ℕ) → value p ≡ field_place w fixed offset s at len → Some x ≡ read w s p.at → value x ≡ field_at w fixed offset s at len
   field-value p x e r = ap value (some_read w s p.at x r).is ∙ ap (map (λ (q : Place). le w s q.at)) e
 
-  pub field-never : {X : Type 0} (p : Place) → value p ≡ field_place w fixed offset s at len → none ≡ read w s p.at → X
+  pub field-never : {X : Type 0} (p : Place) → value p ≡ field_place w fixed offset s at len → None ≡ read w s p.at → X
   field-never p e r = absurd (omega (arith, (lies p e).inside, none_read w s p.at r))
+
+  -- whatever stands for a number that is not there
+  pub field-number : (p : Place) (e : Refusal) → value p ≡ field_place w fixed offset s at len → told (ok_or (read w s p.at) e) ≡ field_at w fixed offset s at len
+  field-number p e h = go (read w s p.at) refl
+    where
+      go : (r : Option ℕ) → r ≡ read w s p.at → told (ok_or r e) ≡ field_at w fixed offset s at len
+      go (Some x) k = field-value p x h k
+      go None k = field-never p h k
 
   pub field-refused : (n : ℕ) → refused n ≡ field_place w fixed offset s at len → refused n ≡ field_at w fixed offset s at len
   field-refused n e = ap (map (λ (q : Place). le w s q.at)) e

@@ -1,8 +1,34 @@
-// What a reading replies: the value, or the number of the refusal from document 01.
+// What a reading replies: the value, or why it refuses.
 ghost use Rattle.std.specs.Prelude.{◌≡◌};
 ghost use Rattle.records.specs.Record.{part_of};
 ghost use Rattle.records.specs.Counted.{text_of};
-ghost use Rattle.records.specs.Told.{told_place};
+ghost use Rattle.records.specs.Told.{refusal_number, told};
+
+// Why a reading or the sheet refuses. (Each has its number, which C sees.)
+#[derive(Clone, Copy, Debug, PartialEq, Eq)]
+pub enum Refusal {
+    OverLong = 1,
+    ShortHeader = 2,
+    WrongMagic = 3,
+    BadCount = 4,
+    ShortDirectory = 5,
+    NoSuchTypeInfo = 6,
+    NoTypeInfoTable = 7,
+    ShortTypeInfo = 8,
+    NothingThere = 9,
+    Circle = 10,
+    TooDeep = 11,
+    NoSpace = 12,
+    TooManyTypes = 13,
+}
+
+impl Refusal {
+    pub fn number(self) -> u8
+        ensures { result ≡ refusal_number self }
+    {
+        self as u8
+    }
+}
 
 // Bytes of the lent library: where they start, and how many they are.
 #[derive(Clone, Copy)]
@@ -11,60 +37,12 @@ pub struct Place {
     pub len: usize,
 }
 
-#[derive(Clone, Copy)]
-pub enum U8Answer {
-    Value(u8),
-    Refused(u8),
-}
-
-#[derive(Clone, Copy)]
-pub enum U16Answer {
-    Value(u16),
-    Refused(u8),
-}
-
-#[derive(Clone, Copy)]
-pub enum U32Answer {
-    Value(u32),
-    Refused(u8),
-}
-
-#[derive(Clone, Copy)]
-pub enum I16Answer {
-    Value(i16),
-    Refused(u8),
-}
-
-#[derive(Clone, Copy)]
-pub enum I32Answer {
-    Value(i32),
-    Refused(u8),
-}
-
-#[derive(Clone, Copy)]
-pub enum BoolAnswer {
-    Value(bool),
-    Refused(u8),
-}
-
-#[derive(Clone, Copy)]
-pub enum UsizeAnswer {
-    Value(usize),
-    Refused(u8),
-}
-
-#[derive(Clone, Copy)]
-pub enum PlaceAnswer {
-    Value(Place),
-    Refused(u8),
-}
-
 // The part of the lent bytes that was answered; empty where the answer is a refusal, or a place
-// that is not wholly inside `s`. (An enum cannot hold a reference, so the part is handed out here.)
-pub fn part(s: &[u8], answer: PlaceAnswer) -> &[u8]
-    ensures { result.now ≡ part_of s.now (told_place answer) }
+// that is not wholly inside `s`. (An answer is a place, since C and the sheet ask where it lies. No `get`: its range would be a sum that may wrap.)
+pub fn part(s: &[u8], answer: Result<Place, Refusal>) -> &[u8]
+    ensures { result.now ≡ part_of s.now (told answer) }
 {
-    let PlaceAnswer::Value(place) = answer else {
+    let Ok(place) = answer else {
         return &s[0..0];
     };
     let at = place.at;
@@ -80,17 +58,13 @@ pub fn part(s: &[u8], answer: PlaceAnswer) -> &[u8]
 }
 
 // The place, where its bytes are text in UTF-8; else 9.
-pub fn text(s: &[u8], answer: PlaceAnswer) -> PlaceAnswer
-    ensures { told_place result ≡ text_of s.now (told_place answer) }
+pub fn text(s: &[u8], answer: Result<Place, Refusal>) -> Result<Place, Refusal>
+    ensures { told result ≡ text_of s.now (told answer) }
 {
-    match answer {
-        PlaceAnswer::Value(place) => {
-            if utf8::is_utf8(part(s, PlaceAnswer::Value(place))) {
-                PlaceAnswer::Value(place)
-            } else {
-                PlaceAnswer::Refused(9)
-            }
-        }
-        PlaceAnswer::Refused(n) => PlaceAnswer::Refused(n),
+    let place = answer?;
+    if utf8::is_utf8(part(s, Ok(place))) {
+        Ok(place)
+    } else {
+        Err(Refusal::NothingThere)
     }
 }

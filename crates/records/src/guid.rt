@@ -2,10 +2,10 @@
 ghost use Rattle.std.specs.Prelude.{◌≡◌};
 ghost use Rattle.records.specs.Layout.{guid, size_of};
 ghost use Rattle.records.specs.Record.{field, place_of, record_place};
-ghost use Rattle.records.specs.Told.{told_u16, told_u32, told_place};
+ghost use Rattle.records.specs.Told.{told};
 
-use crate::answer::{PlaceAnswer, U16Answer, U32Answer};
-use crate::field;
+use crate::answer::{Place, Refusal};
+use crate::field::Record;
 
 #[derive(Clone, Copy)]
 pub struct Guid {
@@ -13,38 +13,53 @@ pub struct Guid {
     pub len: usize,
 }
 
+impl Record for Guid {
+    ghost place = { λ r. record { at = r.at; len = r.len } };
+
+    ghost FIXED = { 16 };
+
+    const FIXED: usize = Guid::SIZE;
+
+    fn place(self) -> Place {
+        Place {
+            at: self.at,
+            len: self.len,
+        }
+    }
+}
+
 impl Guid {
     pub const SIZE: usize = 16;
 
     // The place of the 16 bytes.
-    pub fn as_bytes(self, s: &[u8]) -> PlaceAnswer
-        ensures { told_place result ≡ record_place (size_of guid) s.now self.at self.len }
+    pub fn as_bytes(self, s: &[u8]) -> Result<Place, Refusal>
+        ensures { told result ≡ record_place (size_of guid) s.now self.at self.len }
     {
-        field::record_place(s, self.at, self.len, Self::SIZE)
+        self.own_place(s)
     }
 
-    pub fn data1(self, s: &[u8]) -> U32Answer
-        ensures { told_u32 result ≡ field guid "Data1" s.now self.at self.len }
+    pub fn data1(self, s: &[u8]) -> Result<u32, Refusal>
+        ensures { told result ≡ field guid "Data1" s.now self.at self.len }
     {
-        field::field_u32(s, self.at, self.len, Self::SIZE, 0x00)
+        self.field(s, 0x00)
     }
 
-    pub fn data2(self, s: &[u8]) -> U16Answer
-        ensures { told_u16 result ≡ field guid "Data2" s.now self.at self.len }
+    pub fn data2(self, s: &[u8]) -> Result<u16, Refusal>
+        ensures { told result ≡ field guid "Data2" s.now self.at self.len }
     {
-        field::field_u16(s, self.at, self.len, Self::SIZE, 0x04)
+        self.field(s, 0x04)
     }
 
-    pub fn data3(self, s: &[u8]) -> U16Answer
-        ensures { told_u16 result ≡ field guid "Data3" s.now self.at self.len }
+    pub fn data3(self, s: &[u8]) -> Result<u16, Refusal>
+        ensures { told result ≡ field guid "Data3" s.now self.at self.len }
     {
-        field::field_u16(s, self.at, self.len, Self::SIZE, 0x06)
+        self.field(s, 0x06)
     }
 
     // The place of the last eight bytes.
-    pub fn data4(self, s: &[u8]) -> PlaceAnswer
-        ensures { told_place result ≡ place_of guid "Data4" s.now self.at self.len }
+    pub fn data4(self, s: &[u8]) -> Result<Place, Refusal>
+        ensures { told result ≡ place_of guid "Data4" s.now self.at self.len }
     {
-        field::field_place(s, self.at, self.len, Self::SIZE, 0x08, 8)
+        self.part(s, 0x08, 8)
     }
 }

@@ -1,9 +1,9 @@
 // A decoded entry of the name table (name.rs of the source).
 ghost use Rattle.std.specs.Prelude.{◌≡◌};
 ghost use Rattle.records.specs.Counted.{text_at};
-ghost use Rattle.records.specs.Told.{told_place};
+ghost use Rattle.records.specs.Told.{told};
 
-use crate::answer::{Place, PlaceAnswer};
+use crate::answer::{Place, Refusal};
 use crate::{answer, field};
 
 // Its offset in the name table, the place of its text, and the numbers before the text.
@@ -27,11 +27,10 @@ impl NameEntry {
 
     // The name. An entry that was not read from these bytes may hold any place: 9 where that is not
     // inside them or is no UTF-8, 1 where more than 16,777,216 bytes are lent.
-    pub fn name(self, s: &[u8]) -> PlaceAnswer
-        ensures { told_place result ≡ text_at s.now self.text.at self.text.len }
+    pub fn name(self, s: &[u8]) -> Result<Place, Refusal>
+        ensures { told result ≡ text_at s.now self.text.at self.text.len }
     {
-        let place = self.text;
-        answer::text(s, field::record_place(s, place.at, place.len, 0))
+        answer::text(s, field::record_place(s, self.text, 0))
     }
 
     // The hreftype of the type it belongs to; -1 for a name of the library or of a parameter.

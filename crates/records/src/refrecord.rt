@@ -4,10 +4,10 @@ ghost use Rattle.records.specs.Answer.{map};
 ghost use Rattle.records.specs.Automation.{IMPLTYPEFLAG_FDEFAULT, IMPLTYPEFLAG_FSOURCE, IMPLTYPEFLAG_FRESTRICTED};
 ghost use Rattle.records.specs.Layout.{ref_record};
 ghost use Rattle.records.specs.Record.{field, signed32, flag_set};
-ghost use Rattle.records.specs.Told.{told_bool, told_i32, told_u32};
+ghost use Rattle.records.specs.Told.{told};
 
-use crate::answer::{BoolAnswer, I32Answer, U32Answer};
-use crate::field;
+use crate::answer::{Place, Refusal};
+use crate::field::Record;
 
 #[derive(Clone, Copy)]
 pub struct RefRecord {
@@ -15,45 +15,60 @@ pub struct RefRecord {
     pub len: usize,
 }
 
+impl Record for RefRecord {
+    ghost place = { λ r. record { at = r.at; len = r.len } };
+
+    ghost FIXED = { 16 };
+
+    const FIXED: usize = RefRecord::SIZE;
+
+    fn place(self) -> Place {
+        Place {
+            at: self.at,
+            len: self.len,
+        }
+    }
+}
+
 impl RefRecord {
     pub const SIZE: usize = 16;
 
     // The hreftype of the interface.
-    pub fn reftype(self, s: &[u8]) -> I32Answer
-        ensures { told_i32 result ≡ signed32 (field ref_record "reftype" s.now self.at self.len) }
+    pub fn reftype(self, s: &[u8]) -> Result<i32, Refusal>
+        ensures { told result ≡ signed32 (field ref_record "reftype" s.now self.at self.len) }
     {
-        field::field_i32(s, self.at, self.len, Self::SIZE, 0x00)
+        self.field(s, 0x00)
     }
 
     // IMPLTYPEFLAG bits.
-    pub fn flags(self, s: &[u8]) -> U32Answer
-        ensures { told_u32 result ≡ field ref_record "flags" s.now self.at self.len }
+    pub fn flags(self, s: &[u8]) -> Result<u32, Refusal>
+        ensures { told result ≡ field ref_record "flags" s.now self.at self.len }
     {
-        field::field_u32(s, self.at, self.len, Self::SIZE, 0x04)
+        self.field(s, 0x04)
     }
 
     // The offset of the next record of the chain; -1 at its end.
-    pub fn onext(self, s: &[u8]) -> I32Answer
-        ensures { told_i32 result ≡ signed32 (field ref_record "onext" s.now self.at self.len) }
+    pub fn onext(self, s: &[u8]) -> Result<i32, Refusal>
+        ensures { told result ≡ signed32 (field ref_record "onext" s.now self.at self.len) }
     {
-        field::field_i32(s, self.at, self.len, Self::SIZE, 0x0C)
+        self.field(s, 0x0C)
     }
 
-    pub fn is_default(self, s: &[u8]) -> BoolAnswer
-        ensures { told_bool result ≡ map (flag_set IMPLTYPEFLAG_FDEFAULT) (field ref_record "flags" s.now self.at self.len) }
+    pub fn is_default(self, s: &[u8]) -> Result<bool, Refusal>
+        ensures { told result ≡ map (flag_set IMPLTYPEFLAG_FDEFAULT) (field ref_record "flags" s.now self.at self.len) }
     {
-        field::field_flag(s, self.at, self.len, Self::SIZE, 0x04, 0)
+        self.flag(s, 0x04, 0)
     }
 
-    pub fn is_source(self, s: &[u8]) -> BoolAnswer
-        ensures { told_bool result ≡ map (flag_set IMPLTYPEFLAG_FSOURCE) (field ref_record "flags" s.now self.at self.len) }
+    pub fn is_source(self, s: &[u8]) -> Result<bool, Refusal>
+        ensures { told result ≡ map (flag_set IMPLTYPEFLAG_FSOURCE) (field ref_record "flags" s.now self.at self.len) }
     {
-        field::field_flag(s, self.at, self.len, Self::SIZE, 0x04, 1)
+        self.flag(s, 0x04, 1)
     }
 
-    pub fn is_restricted(self, s: &[u8]) -> BoolAnswer
-        ensures { told_bool result ≡ map (flag_set IMPLTYPEFLAG_FRESTRICTED) (field ref_record "flags" s.now self.at self.len) }
+    pub fn is_restricted(self, s: &[u8]) -> Result<bool, Refusal>
+        ensures { told result ≡ map (flag_set IMPLTYPEFLAG_FRESTRICTED) (field ref_record "flags" s.now self.at self.len) }
     {
-        field::field_flag(s, self.at, self.len, Self::SIZE, 0x04, 2)
+        self.flag(s, 0x04, 2)
     }
 }

@@ -34,6 +34,7 @@ const KINDS: [TypeKind; 8] = [
 
 impl TypeKind {
     // A number that TYPEKIND has not is kept.
+    // (No `TryFrom`: no number is refused. By index, as `get` would be no plainer.)
     pub fn from_raw(raw: u8) -> TypeKind
         ensures { result ≡ kind_of raw }
     {
@@ -60,6 +61,7 @@ pub enum TypeDescription {
 }
 
 // A constant, by the code of its type.
+// (A case each and no enum within, though R4, R8, Date and Bstr have two: each is told by its VARTYPE code and its value at once.)
 #[derive(Clone, Copy)]
 pub enum ConstValue {
     Empty,

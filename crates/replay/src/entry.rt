@@ -5,10 +5,12 @@
 // about the library in them; by the byte 254 in the same way, and then the library that is asked stays the one
 // in the bytes lent by 255 or 253 last. A question is the number of what is asked (1), three numbers (4 each),
 // the count of the answers' bytes (2) and these. All numbers have their lowest byte first.
-use records::answer::{Place, PlaceAnswer};
+// (An item keeps the byte that says what it is: it is the file's own number, and is looked up in `asked` where it is replayed or printed.)
+use std::alloc::{AllocError, Global};
+use util::LittleEndian;
 
 // Where the first item starts, behind the count.
-pub const FIRST: usize = 4;
+const FIRST: usize = 4;
 
 // The kind of an item that lends bytes, of one that lends other bytes for the same library, and of one that
 // lends a library in which the Rust was kept to its tables.
@@ -18,159 +20,106 @@ pub const BESIDE: u8 = 254;
 
 pub const KEPT: u8 = 253;
 
-// An item that lends no bytes, and a question that has no answers.
-const SMALLEST_LENT: usize = 5;
-
-const SMALLEST_QUESTION: usize = 15;
-
 #[derive(Clone, Copy)]
-pub struct Item {
+pub struct Item<'a> {
     // What is asked, or LENT, BESIDE or KEPT.
     pub kind: u8,
     // The question's numbers.
     pub first: u32,
     pub second: u32,
     pub third: u32,
-    // The recorded bytes of all answers, or the lent bytes: their place in the file, and how many.
-    pub at: usize,
-    pub len: usize,
-    // Where the next item starts.
-    pub end: usize,
+    // The recorded bytes of all answers, or the lent bytes.
+    pub bytes: &'a [u8],
 }
 
-// Where the bytes lie in the file that questions are about, and those that their library is parsed from.
+// The bytes that questions are about, and those that their library is parsed from.
 #[derive(Clone, Copy)]
-pub struct Lent {
-    pub bytes: Place,
-    pub own: Place,
+pub struct Lent<'a> {
+    pub bytes: &'a [u8],
+    pub own: &'a [u8],
 }
 
-#[derive(Clone, Copy)]
-pub enum ItemRead {
-    Value(Item),
-    Malformed,
+impl<'a> Lent<'a> {
+    pub(crate) const NOTHING: Lent<'static> = Lent {
+        bytes: &[],
+        own: &[],
+    };
+
+    // What is lent behind an item.
+    pub(crate) fn behind(self, item: &Item<'a>) -> Lent<'a> {
+        let bytes = item.bytes;
+        match item.kind {
+            LENT | KEPT => Lent { bytes, own: bytes },
+            BESIDE => Lent {
+                bytes,
+                own: self.own,
+            },
+            _ => self,
+        }
+    }
 }
 
-#[derive(Clone, Copy)]
-pub enum CountRead {
-    Value(u32),
-    Malformed,
+// The first item of the bytes, and what is behind it; none where it is malformed.
+fn read(s: &[u8]) -> Option<(Item<'_>, &[u8])> {
+    let kind = *s.first()?;
+    if KEPT <= kind {
+        read_lent(s, kind)
+    } else {
+        read_question(s, kind)
+    }
 }
 
-// The item at that place of the file.
-pub(crate) fn read(s: &[u8], at: usize) -> ItemRead {
-    let size = s.len();
-    if size <= at {
-        return ItemRead::Malformed;
-    }
-    if KEPT <= s[at] {
-        return read_lent(s, at);
-    }
-    read_question(s, at)
-}
-
-fn read_lent(s: &[u8], at: usize) -> ItemRead {
-    let size = s.len();
-    if size <= at {
-        return ItemRead::Malformed;
-    }
-    if size - at < SMALLEST_LENT {
-        return ItemRead::Malformed;
-    }
-    let len = util::u32_or_zero(s, at + 1) as usize;
-    if size - at - SMALLEST_LENT < len {
-        return ItemRead::Malformed;
-    }
-    ItemRead::Value(Item {
-        kind: s[at],
+fn read_lent(s: &[u8], kind: u8) -> Option<(Item<'_>, &[u8])> {
+    let size = u32::read_le(s, 1)?;
+    let (bytes, rest) = s.get(5..)?.split_at_checked(size as usize)?;
+    let item = Item {
+        kind,
         first: 0,
         second: 0,
         third: 0,
-        at: at + SMALLEST_LENT,
-        len,
-        end: at + SMALLEST_LENT + len,
-    })
+        bytes,
+    };
+    Some((item, rest))
 }
 
-fn read_question(s: &[u8], at: usize) -> ItemRead {
-    let size = s.len();
-    if size <= at {
-        return ItemRead::Malformed;
-    }
-    if size - at < SMALLEST_QUESTION {
-        return ItemRead::Malformed;
-    }
-    let len = util::u16_or_zero(s, at + 13) as usize;
-    if size - at - SMALLEST_QUESTION < len {
-        return ItemRead::Malformed;
-    }
-    ItemRead::Value(Item {
-        kind: s[at],
-        first: util::u32_or_zero(s, at + 1),
-        second: util::u32_or_zero(s, at + 5),
-        third: util::u32_or_zero(s, at + 9),
-        at: at + SMALLEST_QUESTION,
-        len,
-        end: at + SMALLEST_QUESTION + len,
-    })
+fn read_question(s: &[u8], kind: u8) -> Option<(Item<'_>, &[u8])> {
+    let size = u16::read_le(s, 13)?;
+    let (bytes, rest) = s.get(15..)?.split_at_checked(usize::from(size))?;
+    let item = Item {
+        kind,
+        first: u32::read_le(s, 1)?,
+        second: u32::read_le(s, 5)?,
+        third: u32::read_le(s, 9)?,
+        bytes,
+    };
+    Some((item, rest))
 }
 
-// How many items the file holds. It is malformed where it does not hold as many as it says, holds a
+// The items of the file. It is malformed, and there are none, where it does not hold as many as it says, holds a
 // byte behind them, or asks what is not from `first` on and before `end`.
-pub(crate) fn count(s: &[u8], first: u8, end: u8) -> CountRead {
-    let count = util::u32_or_zero(s, 0);
-    let mut at = FIRST;
-    let mut number: u32 = 0;
-    while number < count {
-        let ItemRead::Value(item) = read(s, at) else {
-            return CountRead::Malformed;
+pub(crate) fn items(
+    alloc: Global,
+    s: &[u8],
+    first: u8,
+    end: u8,
+) -> Result<Option<Vec<Item<'_>>>, AllocError> {
+    let Some(mut rest) = s.get(FIRST..) else {
+        return Ok(None);
+    };
+    let mut items = Vec::new(alloc);
+    for _ in 0..util::or_zero::<u32>(s, 0) {
+        let Some((item, behind)) = read(rest) else {
+            return Ok(None);
         };
         if !is_of(item.kind, first, end) {
-            return CountRead::Malformed;
+            return Ok(None);
         }
-        at = item.end;
-        number += 1;
+        items.push(item)?;
+        rest = behind;
     }
-    if at == s.len() {
-        CountRead::Value(count)
-    } else {
-        CountRead::Malformed
-    }
+    Ok(if rest.is_empty() { Some(items) } else { None })
 }
 
 fn is_of(kind: u8, first: u8, end: u8) -> bool {
     KEPT <= kind || first <= kind && kind < end
-}
-
-pub(crate) fn nothing_lent() -> Lent {
-    let bytes = Place { at: 0, len: 0 };
-    let own = Place { at: 0, len: 0 };
-    Lent { bytes, own }
-}
-
-// What is lent behind an item, where that was lent before it.
-pub(crate) fn lent_behind(before: Lent, item: Item) -> Lent {
-    let bytes = Place {
-        at: item.at,
-        len: item.len,
-    };
-    let kind = item.kind;
-    match kind {
-        LENT => Lent { bytes, own: bytes },
-        KEPT => Lent { bytes, own: bytes },
-        BESIDE => {
-            let own = before.own;
-            Lent { bytes, own }
-        }
-        _ => before,
-    }
-}
-
-// The `len` bytes of the file at `at`.
-pub(crate) fn part(s: &[u8], at: usize, len: usize) -> &[u8] {
-    bytes_at(s, Place { at, len })
-}
-
-pub(crate) fn bytes_at(s: &[u8], place: Place) -> &[u8] {
-    records::answer::part(s, PlaceAnswer::Value(place))
 }

@@ -1,14 +1,13 @@
 // The methods of each kind of record, in the order in which their answers are recorded; and the check of a text.
-use crate::compare::{
-    TEXT_ROOM, same_bool, same_bound, same_check, same_guid, same_i16, same_i32, same_kind,
-    same_place, same_text, same_u8, same_u16, same_u32, same_usize, same_var,
-};
+// (A row of calls for each kind: each calls other methods with other replies, and what they share is `same`. The answers are lent to be
+// changed, so they stand apart from the record and its index.)
+use crate::answers::Answers;
+use crate::asked::Kind;
 use crate::entry::Item;
-use crate::progress::Progress;
 use member_records::func::FuncRecord;
 use member_records::param::ParameterInfo;
 use member_records::var::VarRecord;
-use records::answer::{I32Answer, Place, PlaceAnswer, U8Answer, U16Answer, UsizeAnswer};
+use records::answer::Place;
 use records::arraydesc::ArrayDesc;
 use records::guid::Guid;
 use records::guidentry::GuidEntry;
@@ -17,330 +16,274 @@ use records::impinfo::ImpInfo;
 use records::name::NameEntry;
 use records::refrecord::RefRecord;
 use records::textcheck;
-use records::typeinfo::{KindAnswer, TypeInfoEntry};
+use records::typeinfo::TypeInfoEntry;
 use records::types::TypeKind;
 use texts::types;
 
-// How many kinds there are. They are numbered from 0.
-pub const COUNT: u8 = 14;
+// Longer than any text that a method writes. (A method takes an output and replies how much of it is the text.)
+const TEXT_ROOM: usize = 64;
 
 // Compares all answers to a question about a record or a text: its numbers are the place and the length,
 // and an index for the methods that take one, or the number itself for a conversion from a number.
-// What is left uncompared, of an unknown kind or a number that is too large, counts as a difference at
-// the end.
-pub(crate) fn replay(lent: &[u8], recorded: &[u8], item: Item, before: Progress) -> Progress {
+// What is left uncompared, of a number that is too large, counts as a difference at the end.
+// (An arm for each kind: each record is a type of its own.)
+pub(crate) fn replay(answers: &mut Answers, kind: Kind, item: &Item) {
     let at = item.first as usize;
     let len = item.second as usize;
     let number = item.third;
     let index = number as usize;
-    let kind = item.kind;
     match kind {
-        0 => guid(lent, recorded, Guid { at, len }, before),
-        1 => guidentry(lent, recorded, GuidEntry { at, len }, before),
-        2 => param(lent, recorded, ParameterInfo { at, len }, before),
-        3 => refrecord(lent, recorded, RefRecord { at, len }, before),
-        4 => impinfo(lent, recorded, ImpInfo { at, len }, before),
-        5 => arraydesc(lent, recorded, ArrayDesc { at, len }, index, before),
-        6 => impfile(lent, recorded, ImpFile { at, len }, before),
-        7 => typeinfo(lent, recorded, TypeInfoEntry { at, len }, before),
-        8 => var(lent, recorded, at, len, before),
-        9 => func(lent, recorded, FuncRecord { at, len }, index, before),
-        10 => vt_name(recorded, number, before),
-        11 => typekind(recorded, number, before),
-        12 => name(lent, recorded, Place { at, len }, number, before),
-        13 => same_check(recorded, before, textcheck::text_check(lent, at, len)),
-        _ => before,
+        Kind::Guid => guid(answers, Guid { at, len }),
+        Kind::GuidEntry => guidentry(answers, GuidEntry { at, len }),
+        Kind::Param => param(answers, ParameterInfo { at, len }),
+        Kind::RefRecord => refrecord(answers, RefRecord { at, len }),
+        Kind::ImpInfo => impinfo(answers, ImpInfo { at, len }),
+        Kind::ArrayDesc => arraydesc(answers, ArrayDesc { at, len }, index),
+        Kind::ImpFile => impfile(answers, ImpFile { at, len }),
+        Kind::TypeInfo => typeinfo(answers, TypeInfoEntry { at, len }),
+        Kind::Var => var(answers, VarRecord { at, len }),
+        Kind::Func => func(answers, FuncRecord { at, len }, index),
+        Kind::VtName => vt_name(answers, number),
+        Kind::TypeKind => typekind(answers, number),
+        Kind::Name => name(answers, Place { at, len }, number),
+        Kind::TextCheck => answers.same(textcheck::text_check(answers.lent, at, len)),
     }
 }
 
-fn guid(lent: &[u8], recorded: &[u8], record: Guid, before: Progress) -> Progress {
-    let mut progress = before;
-    progress = same_place(recorded, progress, record.as_bytes(lent));
-    progress = same_u32(recorded, progress, record.data1(lent));
-    progress = same_u16(recorded, progress, record.data2(lent));
-    progress = same_u16(recorded, progress, record.data3(lent));
-    progress = same_place(recorded, progress, record.data4(lent));
-    guid_text(lent, recorded, record, progress)
+fn guid(answers: &mut Answers, record: Guid) {
+    let lent = answers.lent;
+    answers.same(record.as_bytes(lent));
+    answers.same(record.data1(lent));
+    answers.same(record.data2(lent));
+    answers.same(record.data3(lent));
+    answers.same(record.data4(lent));
+    guid_text(answers, record);
 }
 
-fn guid_text(lent: &[u8], recorded: &[u8], record: Guid, before: Progress) -> Progress {
+fn guid_text(answers: &mut Answers, record: Guid) {
     let mut text = [0u8; TEXT_ROOM];
-    let answer = texts::guid::text(record, lent, &mut text);
-    same_text(recorded, before, &text, answer)
+    let answer = texts::guid::text(record, answers.lent, &mut text);
+    answers.same_text(&text, answer);
 }
 
-fn guidentry(lent: &[u8], recorded: &[u8], record: GuidEntry, before: Progress) -> Progress {
-    let mut progress = before;
-    progress = same_guid(recorded, progress, record.guid(lent));
-    progress = same_i32(recorded, progress, record.hreftype(lent));
-    same_i32(recorded, progress, record.next_hash(lent))
+fn guidentry(answers: &mut Answers, record: GuidEntry) {
+    let lent = answers.lent;
+    answers.same(record.guid(lent));
+    answers.same(record.hreftype(lent));
+    answers.same(record.next_hash(lent));
 }
 
-fn param(lent: &[u8], recorded: &[u8], record: ParameterInfo, before: Progress) -> Progress {
-    let mut progress = before;
-    progress = same_i32(recorded, progress, record.datatype(lent));
-    progress = same_i32(recorded, progress, record.name_offset(lent));
-    progress = same_u32(recorded, progress, record.flags(lent));
-    progress = same_bool(recorded, progress, record.is_in(lent));
-    progress = same_bool(recorded, progress, record.is_out(lent));
-    progress = same_bool(recorded, progress, record.is_retval(lent));
-    same_bool(recorded, progress, record.is_optional(lent))
+fn param(answers: &mut Answers, record: ParameterInfo) {
+    let lent = answers.lent;
+    answers.same(record.datatype(lent));
+    answers.same(record.name_offset(lent));
+    answers.same(record.flags(lent));
+    answers.same(record.is_in(lent));
+    answers.same(record.is_out(lent));
+    answers.same(record.is_retval(lent));
+    answers.same(record.is_optional(lent));
 }
 
-fn refrecord(lent: &[u8], recorded: &[u8], record: RefRecord, before: Progress) -> Progress {
-    let mut progress = before;
-    progress = same_i32(recorded, progress, record.reftype(lent));
-    progress = same_u32(recorded, progress, record.flags(lent));
-    progress = same_i32(recorded, progress, record.onext(lent));
-    progress = same_bool(recorded, progress, record.is_default(lent));
-    progress = same_bool(recorded, progress, record.is_source(lent));
-    same_bool(recorded, progress, record.is_restricted(lent))
+fn refrecord(answers: &mut Answers, record: RefRecord) {
+    let lent = answers.lent;
+    answers.same(record.reftype(lent));
+    answers.same(record.flags(lent));
+    answers.same(record.onext(lent));
+    answers.same(record.is_default(lent));
+    answers.same(record.is_source(lent));
+    answers.same(record.is_restricted(lent));
 }
 
-fn impinfo(lent: &[u8], recorded: &[u8], record: ImpInfo, before: Progress) -> Progress {
-    let mut progress = before;
-    progress = same_u32(recorded, progress, record.flags(lent));
-    progress = same_i32(recorded, progress, record.imp_file_offset(lent));
-    same_i32(recorded, progress, record.guid_offset(lent))
+fn impinfo(answers: &mut Answers, record: ImpInfo) {
+    let lent = answers.lent;
+    answers.same(record.flags(lent));
+    answers.same(record.imp_file_offset(lent));
+    answers.same(record.guid_offset(lent));
 }
 
-fn arraydesc(
-    lent: &[u8],
-    recorded: &[u8],
-    record: ArrayDesc,
-    index: usize,
-    before: Progress,
-) -> Progress {
-    let mut progress = before;
-    progress = same_i32(recorded, progress, record.element_type(lent));
-    progress = same_u16(recorded, progress, record.num_dims(lent));
-    progress = same_u16(recorded, progress, record.flags(lent));
-    progress = same_bound(recorded, progress, record.bound(lent, index));
-    same_usize(recorded, progress, record.size(lent))
+fn arraydesc(answers: &mut Answers, record: ArrayDesc, index: usize) {
+    let lent = answers.lent;
+    answers.same(record.element_type(lent));
+    answers.same(record.num_dims(lent));
+    answers.same(record.flags(lent));
+    answers.same(record.bound(lent, index));
+    answers.same(record.size(lent));
 }
 
-fn impfile(lent: &[u8], recorded: &[u8], record: ImpFile, before: Progress) -> Progress {
-    let mut progress = before;
-    progress = same_i32(recorded, progress, record.guid_offset(lent));
-    progress = same_i32(recorded, progress, record.lcid(lent));
-    progress = same_u16(recorded, progress, record.major_version(lent));
-    progress = same_u16(recorded, progress, record.minor_version(lent));
-    progress = same_u16(recorded, progress, record.size_field(lent));
-    progress = same_place(recorded, progress, record.filename(lent));
-    progress = same_place(recorded, progress, record.filename_bytes(lent));
-    same_usize(recorded, progress, record.entry_size(lent))
+fn impfile(answers: &mut Answers, record: ImpFile) {
+    let lent = answers.lent;
+    answers.same(record.guid_offset(lent));
+    answers.same(record.lcid(lent));
+    answers.same(record.major_version(lent));
+    answers.same(record.minor_version(lent));
+    answers.same(record.size_field(lent));
+    answers.same(record.filename(lent));
+    answers.same(record.filename_bytes(lent));
+    answers.same(record.entry_size(lent));
 }
 
 // (A long row of calls is slow to prove, so it stands in parts here and below.)
-fn typeinfo(lent: &[u8], recorded: &[u8], record: TypeInfoEntry, before: Progress) -> Progress {
-    let mut progress = before;
-    progress = typeinfo_members(lent, recorded, record, progress);
-    progress = typeinfo_names(lent, recorded, record, progress);
-    typeinfo_rest(lent, recorded, record, progress)
+fn typeinfo(answers: &mut Answers, record: TypeInfoEntry) {
+    typeinfo_members(answers, record);
+    typeinfo_names(answers, record);
+    typeinfo_rest(answers, record);
 }
 
-fn typeinfo_members(
-    lent: &[u8],
-    recorded: &[u8],
-    record: TypeInfoEntry,
-    before: Progress,
-) -> Progress {
-    let mut progress = before;
-    progress = same_place(recorded, progress, record.as_bytes(lent));
-    progress = same_kind(recorded, progress, record.typekind(lent));
-    progress = same_u32(recorded, progress, record.typekind_raw(lent));
-    progress = same_i32(recorded, progress, record.memoffset(lent));
-    progress = same_i32(recorded, progress, record.res2(lent));
-    progress = same_u32(recorded, progress, record.celement(lent));
-    progress = same_u16(recorded, progress, record.func_count(lent));
-    same_u16(recorded, progress, record.var_count(lent))
+fn typeinfo_members(answers: &mut Answers, record: TypeInfoEntry) {
+    let lent = answers.lent;
+    answers.same(record.as_bytes(lent));
+    answers.same(record.typekind(lent));
+    answers.same(record.typekind_raw(lent));
+    answers.same(record.memoffset(lent));
+    answers.same(record.res2(lent));
+    answers.same(record.celement(lent));
+    answers.same(record.func_count(lent));
+    answers.same(record.var_count(lent));
 }
 
-fn typeinfo_names(
-    lent: &[u8],
-    recorded: &[u8],
-    record: TypeInfoEntry,
-    before: Progress,
-) -> Progress {
-    let mut progress = before;
-    progress = same_i32(recorded, progress, record.guid_offset(lent));
-    progress = same_u32(recorded, progress, record.flags(lent));
-    progress = same_i32(recorded, progress, record.name_offset(lent));
-    progress = same_u32(recorded, progress, record.version(lent));
-    progress = same_i32(recorded, progress, record.docstring_offset(lent));
-    progress = same_i16(recorded, progress, record.cimpltypes(lent));
-    progress = same_i16(recorded, progress, record.cb_size_vft(lent));
-    same_i32(recorded, progress, record.size(lent))
+fn typeinfo_names(answers: &mut Answers, record: TypeInfoEntry) {
+    let lent = answers.lent;
+    answers.same(record.guid_offset(lent));
+    answers.same(record.flags(lent));
+    answers.same(record.name_offset(lent));
+    answers.same(record.version(lent));
+    answers.same(record.docstring_offset(lent));
+    answers.same(record.cimpltypes(lent));
+    answers.same(record.cb_size_vft(lent));
+    answers.same(record.size(lent));
 }
 
-fn typeinfo_rest(
-    lent: &[u8],
-    recorded: &[u8],
-    record: TypeInfoEntry,
-    before: Progress,
-) -> Progress {
-    let mut progress = before;
-    progress = same_i32(recorded, progress, record.datatype1(lent));
-    progress = same_i32(recorded, progress, record.datatype2(lent));
-    progress = same_i32(recorded, progress, record.helpstringcontext(lent));
-    progress = same_i32(recorded, progress, record.helpcontext(lent));
-    progress = same_i32(recorded, progress, record.cust_data_offset(lent));
-    progress = same_i32(recorded, progress, record.res3(lent));
-    progress = same_i32(recorded, progress, record.res18(lent));
-    same_i32(recorded, progress, record.res19(lent))
+fn typeinfo_rest(answers: &mut Answers, record: TypeInfoEntry) {
+    let lent = answers.lent;
+    answers.same(record.datatype1(lent));
+    answers.same(record.datatype2(lent));
+    answers.same(record.helpstringcontext(lent));
+    answers.same(record.helpcontext(lent));
+    answers.same(record.cust_data_offset(lent));
+    answers.same(record.res3(lent));
+    answers.same(record.res18(lent));
+    answers.same(record.res19(lent));
 }
 
-fn var(lent: &[u8], recorded: &[u8], at: usize, len: usize, before: Progress) -> Progress {
-    let made = same_var(recorded, before, VarRecord::from_raw(lent, at, len));
-    let fixed = var_fixed(lent, recorded, VarRecord { at, len }, made);
-    var_attributes(lent, recorded, VarRecord { at, len }, fixed)
+fn var(answers: &mut Answers, record: VarRecord) {
+    answers.same(VarRecord::from_raw(answers.lent, record.at, record.len));
+    var_fixed(answers, record);
+    var_attributes(answers, record);
 }
 
-fn var_fixed(lent: &[u8], recorded: &[u8], record: VarRecord, before: Progress) -> Progress {
-    let mut progress = before;
-    progress = same_place(recorded, progress, record.as_bytes(lent));
-    progress = same_u32(recorded, progress, record.info(lent));
-    progress = same_usize(recorded, progress, record.record_size(lent));
-    progress = same_i32(recorded, progress, record.datatype(lent));
-    progress = same_u32(recorded, progress, record.flags(lent));
-    progress = same_i16(recorded, progress, record.varkind(lent));
-    progress = same_i16(recorded, progress, record.vardesc_size(lent));
-    same_i32(recorded, progress, record.offs_value(lent))
+fn var_fixed(answers: &mut Answers, record: VarRecord) {
+    let lent = answers.lent;
+    answers.same(record.as_bytes(lent));
+    answers.same(record.info(lent));
+    answers.same(record.record_size(lent));
+    answers.same(record.datatype(lent));
+    answers.same(record.flags(lent));
+    answers.same(record.varkind(lent));
+    answers.same(record.vardesc_size(lent));
+    answers.same(record.offs_value(lent));
 }
 
-fn var_attributes(lent: &[u8], recorded: &[u8], record: VarRecord, before: Progress) -> Progress {
-    let mut progress = before;
-    progress = same_i32(recorded, progress, record.help_context(lent));
-    progress = same_i32(recorded, progress, record.help_string_offset(lent));
-    progress = same_i32(recorded, progress, record.res9(lent));
-    progress = same_i32(recorded, progress, record.cust_data_offset(lent));
-    same_i32(recorded, progress, record.helpstringcontext(lent))
+fn var_attributes(answers: &mut Answers, record: VarRecord) {
+    let lent = answers.lent;
+    answers.same(record.help_context(lent));
+    answers.same(record.help_string_offset(lent));
+    answers.same(record.res9(lent));
+    answers.same(record.cust_data_offset(lent));
+    answers.same(record.helpstringcontext(lent));
 }
 
-fn func(
-    lent: &[u8],
-    recorded: &[u8],
-    record: FuncRecord,
-    index: usize,
-    before: Progress,
-) -> Progress {
-    let mut progress = before;
-    progress = func_fixed(lent, recorded, record, progress);
-    progress = func_kinds(lent, recorded, record, progress);
-    progress = func_flags(lent, recorded, record, index, progress);
-    func_attributes(lent, recorded, record, index, progress)
+fn func(answers: &mut Answers, record: FuncRecord, index: usize) {
+    func_fixed(answers, record);
+    func_kinds(answers, record);
+    func_flags(answers, record, index);
+    func_attributes(answers, record, index);
 }
 
-fn func_fixed(lent: &[u8], recorded: &[u8], record: FuncRecord, before: Progress) -> Progress {
-    let mut progress = before;
-    progress = same_place(recorded, progress, record.as_bytes(lent));
-    progress = same_u32(recorded, progress, record.info(lent));
-    progress = same_usize(recorded, progress, record.record_size(lent));
-    progress = same_i32(recorded, progress, record.datatype(lent));
-    progress = same_u32(recorded, progress, record.flags(lent));
-    progress = same_i16(recorded, progress, record.vtable_offset(lent));
-    same_i16(recorded, progress, record.funcdesc_size(lent))
+fn func_fixed(answers: &mut Answers, record: FuncRecord) {
+    let lent = answers.lent;
+    answers.same(record.as_bytes(lent));
+    answers.same(record.info(lent));
+    answers.same(record.record_size(lent));
+    answers.same(record.datatype(lent));
+    answers.same(record.flags(lent));
+    answers.same(record.vtable_offset(lent));
+    answers.same(record.funcdesc_size(lent));
 }
 
-fn func_kinds(lent: &[u8], recorded: &[u8], record: FuncRecord, before: Progress) -> Progress {
-    let mut progress = before;
-    progress = same_u32(recorded, progress, record.fkccic(lent));
-    progress = same_u8(recorded, progress, record.func_kind(lent));
-    progress = same_u8(recorded, progress, record.invoke_kind(lent));
-    progress = same_u8(recorded, progress, record.callconv(lent));
-    progress = same_i16(recorded, progress, record.nrargs(lent));
-    same_i16(recorded, progress, record.nroargs(lent))
+fn func_kinds(answers: &mut Answers, record: FuncRecord) {
+    let lent = answers.lent;
+    answers.same(record.fkccic(lent));
+    answers.same(record.func_kind(lent));
+    answers.same(record.invoke_kind(lent));
+    answers.same(record.callconv(lent));
+    answers.same(record.nrargs(lent));
+    answers.same(record.nroargs(lent));
 }
 
-fn func_flags(
-    lent: &[u8],
-    recorded: &[u8],
-    record: FuncRecord,
-    index: usize,
-    before: Progress,
-) -> Progress {
-    let mut progress = before;
-    progress = same_bool(recorded, progress, record.has_default_values(lent));
-    progress = same_i32(recorded, progress, record.default_value_offset(lent, index));
-    progress = same_bool(recorded, progress, record.has_cust_data(lent));
-    same_bool(recorded, progress, record.has_arg_cust_data(lent))
+fn func_flags(answers: &mut Answers, record: FuncRecord, index: usize) {
+    let lent = answers.lent;
+    answers.same(record.has_default_values(lent));
+    answers.same(record.default_value_offset(lent, index));
+    answers.same(record.has_cust_data(lent));
+    answers.same(record.has_arg_cust_data(lent));
 }
 
-fn func_attributes(
-    lent: &[u8],
-    recorded: &[u8],
-    record: FuncRecord,
-    index: usize,
-    before: Progress,
-) -> Progress {
-    let mut progress = before;
-    progress = same_i32(recorded, progress, record.help_context(lent));
-    progress = same_i32(recorded, progress, record.help_string_offset(lent));
-    progress = same_i32(recorded, progress, record.oentry(lent));
-    progress = same_i32(recorded, progress, record.res9(lent));
-    progress = same_i32(recorded, progress, record.res_a(lent));
-    progress = same_i32(recorded, progress, record.helpstringcontext(lent));
-    progress = same_i32(recorded, progress, record.cust_data_offset(lent));
-    same_i32(recorded, progress, record.arg_cust_data_offset(lent, index))
+fn func_attributes(answers: &mut Answers, record: FuncRecord, index: usize) {
+    let lent = answers.lent;
+    answers.same(record.help_context(lent));
+    answers.same(record.help_string_offset(lent));
+    answers.same(record.oentry(lent));
+    answers.same(record.res9(lent));
+    answers.same(record.res_a(lent));
+    answers.same(record.helpstringcontext(lent));
+    answers.same(record.cust_data_offset(lent));
+    answers.same(record.arg_cust_data_offset(lent, index));
 }
 
-// The name of a type's code, which has 16 bits.
-fn vt_name(recorded: &[u8], code: u32, before: Progress) -> Progress {
-    if 0xffff < code {
-        return before;
+// The name of a type's code, which has 16 bits. (The question's number has 32, here and below, and may be no code.)
+fn vt_name(answers: &mut Answers, code: u32) {
+    if let Ok(code) = u16::try_from(code) {
+        let mut text = [0u8; TEXT_ROOM];
+        let answer = types::vt_name(code, &mut text);
+        answers.same_text(&text, answer);
     }
-    let mut text = [0u8; TEXT_ROOM];
-    let answer = types::vt_name(code as u16, &mut text);
-    same_text(recorded, before, &text, answer)
 }
 
 // The kind of a raw number, which has 8 bits, and the kind's word.
-fn typekind(recorded: &[u8], raw: u32, before: Progress) -> Progress {
-    if 0xff < raw {
-        return before;
+fn typekind(answers: &mut Answers, raw: u32) {
+    if let Ok(raw) = u8::try_from(raw) {
+        let kind = TypeKind::from_raw(raw);
+        answers.same(Ok(kind));
+        let mut text = [0u8; TEXT_ROOM];
+        let answer = types::word(kind, &mut text);
+        answers.same_text(&text, answer);
     }
-    let kind = TypeKind::from_raw(raw as u8);
-    let progress = same_kind(recorded, before, KindAnswer::Value(kind));
-    let mut text = [0u8; TEXT_ROOM];
-    let answer = types::word(kind, &mut text);
-    same_text(recorded, progress, &text, answer)
 }
 
 // A name entry with that text, whose numbers are made from one. The reference holds none whose text is
 // not UTF-8 or not inside the lent bytes; of such a one only the name is asked for.
-fn name(lent: &[u8], recorded: &[u8], text: Place, number: u32, before: Progress) -> Progress {
+// (The difference and the remainder say as plainly as `!` and a cast alone which numbers these are.)
+fn name(answers: &mut Answers, text: Place, number: u32) {
     let entry = NameEntry {
         offset: number as usize,
         text,
-        hreftype: util::signed32(number),
-        next_hash: util::signed32(0xffff_ffff - number),
+        hreftype: number.cast_signed(),
+        next_hash: (0xffff_ffff - number).cast_signed(),
         flags: (number % 0x100) as u8,
         hashcode: (number / 0x1_0000) as u16,
     };
-    name_entry(lent, recorded, entry, before)
+    name_entry(answers, entry);
 }
 
 // The name, and the numbers of an entry that has one.
-pub(crate) fn name_entry(
-    lent: &[u8],
-    recorded: &[u8],
-    entry: NameEntry,
-    before: Progress,
-) -> Progress {
-    match entry.name(lent) {
-        PlaceAnswer::Value(place) => {
-            let named = same_place(recorded, before, PlaceAnswer::Value(place));
-            name_numbers(recorded, entry, named)
-        }
-        PlaceAnswer::Refused(n) => same_place(recorded, before, PlaceAnswer::Refused(n)),
+pub(crate) fn name_entry(answers: &mut Answers, entry: NameEntry) {
+    let name = entry.name(answers.lent);
+    answers.same(name);
+    if name.is_ok() {
+        answers.same(Ok(entry.offset()));
+        answers.same(Ok(entry.hreftype()));
+        answers.same(Ok(entry.next_hash()));
+        answers.same(Ok(entry.name_flags()));
+        answers.same(Ok(entry.hashcode()));
     }
-}
-
-fn name_numbers(recorded: &[u8], entry: NameEntry, before: Progress) -> Progress {
-    let mut progress = before;
-    progress = same_usize(recorded, progress, UsizeAnswer::Value(entry.offset()));
-    progress = same_i32(recorded, progress, I32Answer::Value(entry.hreftype()));
-    progress = same_i32(recorded, progress, I32Answer::Value(entry.next_hash()));
-    progress = same_u8(recorded, progress, U8Answer::Value(entry.name_flags()));
-    same_u16(recorded, progress, U16Answer::Value(entry.hashcode()))
 }

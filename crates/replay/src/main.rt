@@ -6,11 +6,14 @@
 // records, `libraries` those about whole libraries, and `beside` those about a library that is read
 // beside other bytes than it was parsed from. The Rust cannot hold such a one: these answers are by
 // documents 01 and 02. compare/oracle/src/bin/record makes the files, and its file.rs describes them.
+//
+// (A kind is the byte that the files have for it, and kinds go by the first one and the end, as `count_libraries` asks for the first alone. The host
+// goes beside the file's name, as functions of the library take it.)
 
 #![tactic(auto)]
 
-mod bytes;
-mod compare;
+mod answers;
+mod asked;
 mod constant;
 mod cursor;
 mod descriptors;
@@ -19,76 +22,49 @@ mod header;
 mod kinds;
 mod library;
 mod members;
-mod names;
 mod progress;
+mod recorded;
 mod report;
 mod sheets;
-mod starts;
 mod steps;
 mod tables;
 mod words;
 
-ghost use Rattle.std.specs.Prelude.{◌≤◌, IfOk};
-
-use entry::{CountRead, Item, ItemRead, Lent};
-use progress::Progress;
+use answers::Answers;
+use asked::{Asked, END, FIRST_READING};
+use entry::{Item, KEPT, LENT, Lent};
+use progress::{Counts, Progress};
 use std::fs::File;
 use std::io::{self, Read};
 
-// A file that fills all of this may be longer, and is not replayed.
+// A file that has this many bytes may be longer, and is not replayed.
 const ROOM: usize = 2_097_152;
 
+// The same, as `take` wants it.
+const MOST_READ: u64 = 2_097_152;
+
 fn main(rt: HostRuntime) -> io::Result<()> {
-    replay_file(&rt, "records", 0, kinds::COUNT)?;
-    replay_file(&rt, "libraries", kinds::COUNT, library::END)?;
-    replay_file(&rt, "beside", kinds::COUNT, library::END)
+    replay_file(&rt, "records", 0, FIRST_READING)?;
+    replay_file(&rt, "libraries", FIRST_READING, END)?;
+    replay_file(&rt, "beside", FIRST_READING, END)
 }
 
 // Replays a file, whose questions ask what is from `first` on and before `end`.
 fn replay_file(rt: &HostRuntime, file: &str, first: u8, end: u8) -> io::Result<()> {
-    let Ok(mut opened) = File::open(rt, file) else {
+    let Ok(opened) = File::open(rt, file) else {
         return report::trouble(rt, file, "cannot be opened");
     };
-    let mut room = [0u8; ROOM];
-    let size = fill(&mut opened, &mut room)?;
-    replay(rt, file, &room, size, first, end)
-}
-
-// Reads the file to its end or until the room is full, and replies how many bytes it has. (Where the function that makes an array
-// lends it as a slice, the prover writes out its elements, here too many. So it is lent as an array first.)
-fn fill(file: &mut File, room: &mut [u8; ROOM]) -> io::Result<usize>
-    ensures { IfOk result (λ size. size ≤ ROOM) }
-{
-    let mut size = 0;
-    while size < ROOM {
-        let more = file.read(&mut room[size..])?;
-        if more == 0 {
-            break;
-        }
-        size += more;
-    }
-    Ok(size)
-}
-
-// Replays the file that is the first `size` bytes of `room`.
-fn replay(
-    rt: &HostRuntime,
-    file: &str,
-    room: &[u8; ROOM],
-    size: usize,
-    first: u8,
-    end: u8,
-) -> io::Result<()> {
-    if size == ROOM {
+    let mut bytes = Vec::new(rt.alloc());
+    opened.take(MOST_READ).read_to_end(&mut bytes)?;
+    if bytes.len() == ROOM {
         return report::trouble(rt, file, "is too long");
     }
-    let s = entry::part(room, 0, size);
-    match entry::count(s, first, end) {
-        CountRead::Value(count) => {
-            replay_kinds(rt, file, s, count, first, end)?;
-            count_libraries(rt, file, s, count, first)
+    match entry::items(rt.alloc(), &bytes, first, end)? {
+        Some(items) => {
+            replay_kinds(rt, file, &items, first, end)?;
+            count_libraries(rt, file, &items, first)
         }
-        CountRead::Malformed => report::trouble(rt, file, "is cut off or malformed"),
+        None => report::trouble(rt, file, "is cut off or malformed"),
     }
 }
 
@@ -96,73 +72,60 @@ fn replay(
 fn replay_kinds(
     rt: &HostRuntime,
     file: &str,
-    s: &[u8],
-    count: u32,
+    items: &[Item],
     first: u8,
     end: u8,
 ) -> io::Result<()> {
-    let mut all = progress::start(0, 0);
-    let mut kind = first;
-    while kind < end {
-        let of_kind = replay_kind(s, count, kind, all.shown);
-        report::kind_line(rt, of_kind, all.shown)?;
-        all = progress::sum(all, of_kind);
-        kind += 1;
+    let mut all = Counts::NONE;
+    let mut shown = 0;
+    for kind in first..end {
+        let of_kind = replay_kind(items, kind, shown);
+        report::kind_line(rt, kind, &of_kind, shown)?;
+        all = all.plus(of_kind.counts);
+        shown = of_kind.shown;
     }
-    print!(rt; "{file}")?;
-    report::counts_line(rt, all)
+    report::counts_line(rt, file, all)
 }
 
 // Prints how many libraries the file lends that the Rust reads as it is, and how many in which it is kept to its
 // tables. The records of the first file are no libraries.
-fn count_libraries(
-    rt: &HostRuntime,
-    file: &str,
-    s: &[u8],
-    count: u32,
-    first: u8,
-) -> io::Result<()> {
+fn count_libraries(rt: &HostRuntime, file: &str, items: &[Item], first: u8) -> io::Result<()> {
     if first == 0 {
         return Ok(());
     }
-    let as_they_are = replay_kind(s, count, entry::LENT, 0);
-    let kept = replay_kind(s, count, entry::KEPT, 0);
-    report::libraries_line(rt, file, as_they_are.questions, kept.questions)
+    let as_they_are = items.iter().filter(|item| item.kind == LENT).count();
+    let kept = items.iter().filter(|item| item.kind == KEPT).count();
+    report::libraries_line(rt, file, as_they_are, kept)
 }
 
 // Replays the questions of one kind, wherever they stand, about the bytes that were lent last before
-// each. (`entry::count` has found no item malformed.)
-fn replay_kind(s: &[u8], count: u32, kind: u8, shown: usize) -> Progress {
-    let mut progress = progress::start(kind, shown);
-    let mut lent = entry::nothing_lent();
-    let mut at = entry::FIRST;
-    let mut number: u32 = 0;
-    while number < count {
-        let ItemRead::Value(item) = entry::read(s, at) else {
-            return progress;
-        };
-        lent = entry::lent_behind(lent, item);
+// each.
+fn replay_kind(items: &[Item], kind: u8, shown: usize) -> Progress {
+    let mut progress = Progress::start(shown);
+    let mut lent = Lent::NOTHING;
+    for (number, item) in items.iter().enumerate() {
+        lent = lent.behind(item);
         if item.kind == kind {
-            progress = replay_question(lent, s, item, progress::asked(progress, number));
+            progress.asked(number);
+            progress = replay_question(lent, item, progress);
         }
-        at = item.end;
-        number += 1;
     }
     progress
 }
 
-// Compares all answers to a question. What is left of the recorded bytes is a difference. An item that lends
-// bytes is only counted.
-fn replay_question(places: Lent, s: &[u8], item: Item, before: Progress) -> Progress {
-    if entry::KEPT <= item.kind {
-        return before;
-    }
-    let recorded = entry::part(s, item.at, item.len);
-    let lent = entry::bytes_at(s, places.bytes);
-    let progress = if item.kind < kinds::COUNT {
-        kinds::replay(lent, recorded, item, before)
-    } else {
-        library::replay(entry::bytes_at(s, places.own), lent, recorded, item, before)
+// Compares all answers to a question. What is left of the recorded bytes is a difference.
+fn replay_question<'a>(lent: Lent<'a>, item: &Item<'a>, before: Progress) -> Progress {
+    let mut answers = Answers {
+        lent: lent.bytes,
+        recorded: item.bytes,
+        progress: before,
     };
-    progress::noted(progress, progress.at == recorded.len())
+    match asked::of_number(item.kind) {
+        Some(Asked::Of(kind)) => kinds::replay(&mut answers, kind, item),
+        Some(asked) => library::replay(&mut answers, lent.own, asked, item),
+        None => {}
+    }
+    let is_all = answers.recorded.is_empty();
+    answers.noted(is_all);
+    answers.progress
 }

@@ -1,6 +1,6 @@
-// What the program prints.
-use crate::names;
-use crate::progress::{Difference, Progress};
+// What the program prints. (A kind is the byte that the files have for it.)
+use crate::asked;
+use crate::progress::{Counts, Progress};
 use std::io::{self, Print};
 
 // Why a file cannot be replayed.
@@ -8,37 +8,37 @@ pub(crate) fn trouble(rt: &HostRuntime, file: &str, what: &str) -> io::Result<()
     println!(rt; "the file {file} {what}")
 }
 
-// That an answer is not the recorded one. The number behind the last answer's is that of the end of
-// the recorded bytes.
-pub(crate) fn difference(rt: &HostRuntime, kind: u8, noted: Difference) -> io::Result<()> {
-    let item = noted.item;
-    let answer = noted.answer;
-    print!(rt; "item {item}: ")?;
-    names::print_kind(rt, kind)?;
-    println!(rt; ", answer {answer} differs")
-}
-
 // The differences of a kind that are to be printed, but for the first `before`, which others had; and its line. Of a kind that the file
-// does not ask there is none.
-pub(crate) fn kind_line(rt: &HostRuntime, of_kind: Progress, before: usize) -> io::Result<()> {
-    if of_kind.questions == 0 {
+// does not ask there is none. (The number behind the last answer's is that of the end of the recorded bytes.)
+pub(crate) fn kind_line(
+    rt: &HostRuntime,
+    kind: u8,
+    of_kind: &Progress,
+    before: usize,
+) -> io::Result<()> {
+    if of_kind.counts.questions == 0 {
         return Ok(());
     }
+    let name = asked::name(kind);
     for noted in of_kind.noted.iter().take(of_kind.shown).skip(before) {
-        difference(rt, of_kind.kind, *noted)?;
+        println!(rt;
+            "item {}: {name}, answer {} differs",
+            noted.item, noted.answer
+        )?;
     }
-    names::print_kind(rt, of_kind.kind)?;
-    counts_line(rt, of_kind)
+    counts_line(rt, name, of_kind.counts)
 }
 
-// The end of a line: of a kind, or of a file.
-pub(crate) fn counts_line(rt: &HostRuntime, counts: Progress) -> io::Result<()> {
-    let questions = counts.questions;
-    let answers = counts.answers;
-    let refusals = counts.refusals;
-    let differences = counts.differences;
+// The line of a kind, or of a file.
+pub(crate) fn counts_line(rt: &HostRuntime, name: &str, counts: Counts) -> io::Result<()> {
+    let Counts {
+        questions,
+        answers,
+        refusals,
+        differences,
+    } = counts;
     println!(rt;
-        ": {questions} questions, {answers} answers, {refusals} refusals, {differences} differences"
+        "{name}: {questions} questions, {answers} answers, {refusals} refusals, {differences} differences"
     )
 }
 
@@ -46,8 +46,8 @@ pub(crate) fn counts_line(rt: &HostRuntime, counts: Progress) -> io::Result<()> 
 pub(crate) fn libraries_line(
     rt: &HostRuntime,
     file: &str,
-    as_they_are: u64,
-    kept: u64,
+    as_they_are: usize,
+    kept: usize,
 ) -> io::Result<()> {
     println!(rt;
         "{file}: {as_they_are} libraries as the Rust reads them, {kept} in which it is kept to its tables"

@@ -1,64 +1,45 @@
 // The sheet of a library, and that a call leaves all other bytes of the output as they were.
-use crate::compare::same_usize;
-use crate::progress::Progress;
-use crate::{bytes, progress};
-use records::answer::UsizeAnswer;
+use crate::answers::Answers;
+use records::answer::Refusal;
 
-// The output, of which some of the first bytes are lent, and what each of its bytes is before.
+// How many bytes the output has, of which some of the first are lent, and what each is before.
 const ROOM: usize = 65_536;
 
 const BEFORE: u8 = 0xa5;
 
 // The question's number is how many bytes of the output are lent.
-pub(crate) fn replay(lent: &[u8], recorded: &[u8], room: u32, before: Progress) -> Progress {
+pub(crate) fn replay(answers: &mut Answers, room: usize) {
     let mut output = [BEFORE; ROOM];
-    replay_in(lent, recorded, room as usize, &mut output, before)
+    replay_in(answers, room, &mut output);
 }
 
-// (See main.rt, `fill`.)
-fn replay_in(
-    lent: &[u8],
-    recorded: &[u8],
-    room: usize,
-    output: &mut [u8; ROOM],
-    before: Progress,
-) -> Progress {
-    let answer = ask(lent, room, output);
-    same_sheet(recorded, before, output, answer)
-}
-
-// An output longer than there is one is not asked for, and 0 is the number of no refusal.
-fn ask(lent: &[u8], room: usize, output: &mut [u8]) -> UsizeAnswer {
-    if output.len() < room {
-        return UsizeAnswer::Refused(0);
-    }
-    sheet::sheet(lent, &mut output[..room])
-}
-
-// A sheet that was written to the front of the output; the answer is how many bytes it has.
-fn same_sheet(recorded: &[u8], before: Progress, output: &[u8], answer: UsizeAnswer) -> Progress {
-    let progress = same_usize(recorded, before, answer);
+// (The output is no Vec: that may fail, and each comparison would reply a Result. An array is lent as an array first: the prover
+// writes out the elements of one that is lent as a slice where it is made.)
+fn replay_in(answers: &mut Answers, room: usize, output: &mut [u8; ROOM]) {
+    let Some(answer) = ask(answers.lent, room, output) else {
+        // An output longer than there is one is not asked for.
+        answers.same(Ok(0usize));
+        return;
+    };
+    answers.same(answer);
     match answer {
-        UsizeAnswer::Value(size) => same_bytes(recorded, progress, output, size),
-        UsizeAnswer::Refused(_) => progress::noted(progress, is_as_before(output, 0)),
+        Ok(size) => same_sheet(answers, output, size),
+        Err(_) => answers.noted(is_as_before(output)),
     }
 }
 
-// The first `size` bytes of the output, and those behind them.
-fn same_bytes(recorded: &[u8], before: Progress, output: &[u8], size: usize) -> Progress {
-    let at = before.at;
-    let is_same = bytes::is_run_at(recorded, at, output, size) && is_as_before(output, size);
-    progress::answered(before, is_same, 0, bytes::end(recorded, at, size, 0))
+// (The room is the question's number, which may be more than the output has.)
+fn ask(lent: &[u8], room: usize, output: &mut [u8]) -> Option<Result<usize, Refusal>> {
+    let output = output.get_mut(..room)?;
+    Some(sheet::sheet(lent, output))
 }
 
-// Whether the output is as it was from `from` on.
-fn is_as_before(output: &[u8], from: usize) -> bool {
-    let mut i = from;
-    while i < output.len() {
-        if output[i] != BEFORE {
-            return false;
-        }
-        i += 1;
-    }
-    true
+// The first `size` bytes of the output, and those behind them. (The size is an answer to be judged: it may be more than the output has.)
+fn same_sheet(answers: &mut Answers, output: &[u8], size: usize) {
+    let (sheet, rest) = output.split_at_checked(size).unwrap_or((output, &[]));
+    answers.same_bytes(sheet, is_as_before(rest));
+}
+
+fn is_as_before(output: &[u8]) -> bool {
+    output.iter().all(|byte| *byte == BEFORE)
 }

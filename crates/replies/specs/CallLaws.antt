@@ -5,7 +5,10 @@ use Rattle.std.proofs.Math.Path.{ap}
 use Rattle.std.specs.Int.{w64}
 use Rattle.std.proofs.lemmas.Int.{to_z-of_z, to_z_pos}
 use Rattle.records.specs.Answer.{Answer, value, refused}
-use Rattle.typelib.specs.declared.Parsed.{Parsed}
+use Rattle.records.specs.Told.{refusal_number}
+use Rattle.records.specs.declared.answer.Refusal.{Refusal}
+use Rattle.records.specs.declared.answer.Refusal.TheVariants.{OverLong, ShortHeader, WrongMagic, BadCount, ShortDirectory, NoSuchTypeInfo, NoTypeInfoTable, ShortTypeInfo, NothingThere, Circle, TooDeep, NoSpace, TooManyTypes}
+use Rattle.typelib.specs.Header.{Parsed}
 use Rattle.typelib.specs.Header.{parse_of, parsed}
 use Rattle.replies.specs.Call.{refusal_of, library_in, after, reply, reply_behind, Outcome, laid}
 
@@ -20,6 +23,22 @@ minus-back n {z} h e = rw (e, to_z-of_z w64 (neg_ℤ (pos n)) (minus-fits n h), 
 
 pub pos-back : (n : ℕ) → n < 2 ^ 63 → to_z w64 (of_z w64 (to_z w64 n)) ≡ pos n
 pos-back n h = rw (to_z_pos w64 n h) (to_z-of_z w64 (pos n) (record { sfits = h }))
+
+-- the number of a refusal is a byte
+pub refusal-byte : (e : Refusal) → refusal_number e < 256
+refusal-byte OverLong = omega arith
+refusal-byte ShortHeader = omega arith
+refusal-byte WrongMagic = omega arith
+refusal-byte BadCount = omega arith
+refusal-byte ShortDirectory = omega arith
+refusal-byte NoSuchTypeInfo = omega arith
+refusal-byte NoTypeInfoTable = omega arith
+refusal-byte ShortTypeInfo = omega arith
+refusal-byte NothingThere = omega arith
+refusal-byte Circle = omega arith
+refusal-byte TooDeep = omega arith
+refusal-byte NoSpace = omega arith
+refusal-byte TooManyTypes = omega arith
 
 -- ---- the library
 

@@ -1,8 +1,9 @@
 -- The laws of values laid into an output. Assumes nothing.
-use Rattle.std.specs.Prelude.{◌≡◌, List, ◌++◌, ℕ, suc, ◌-◌, ◌%◌, ◌≤◌, ◌<◌, ◌^◌, ℤ, pos, neg_ℤ, length, take, drop}
+use Rattle.std.specs.Prelude.{◌≡◌, List, ◌++◌, ℕ, suc, ◌-◌, ◌%◌, ◌≤◌, ◌<◌, ◌^◌, ℤ, pos, neg_ℤ, leb, length, take, drop}
 use Rattle.std.proofs.Common.{sym, ap, ap₂, ◌∙◌, zero-add, arith, length-take-le, to_z, of_z, le-leb}
 use Rattle.std.specs.Int.{w64}
 use Rattle.std.proofs.lemmas.Bool.{lt-leb}
+use Rattle.util.specs.Read.{cond-elim}
 use Rattle.records.specs.Answer.{Answer, value, refused}
 use Rattle.records.specs.Record.{limit}
 use Rattle.texts.specs.Text.{fitted, fronted}
@@ -52,6 +53,11 @@ lay-refused (refused i) n o e h k =
     let q : n ≡ i = cc in
     ap (λ (z : ℤ). outcome z o) (minus-back n h k ∙ ap (λ (m : ℕ). neg_ℤ (pos m)) q)
 
+-- where a place is, it is within
+at-within : (n : ℕ) {p : ℕ} → put n ≡ At p → n ≡ p
+unfolding put
+at-within n {p} = cond-elim (λ (t : Put). t ≡ At p → n ≡ p) (leb n past) (At n) (Refused ((n - suc past) % 256)) (λ _ e. cc) (λ _ e. never (sym e))
+
 -- `size` is what a run over no output gave
 module _ (x : Answer (List ℕ)) (o : List ℕ) (size : ℕ) {a b : List ℕ} (m : Emitted x (put 0) a (put size) b) where
   ran : put size ≡ moved (At 0) x
@@ -70,6 +76,23 @@ module _ (x : Answer (List ℕ)) (o : List ℕ) (size : ℕ) {a b : List ℕ} (m
   lay-declined h k =
       let e : (size - past - 1) % 256 ≡ (size - suc past) % 256 = omega arith in
       lay-refused x ((size - past - 1) % 256) o (ap Refused e ∙ sym (put_refused size h) ∙ ran) (omega arith) k
+
+-- the same of a row's bytes, which are short, so that the size is no refusal
+module _ (bs : List ℕ) (o : List ℕ) (size : ℕ) {a b : List ℕ} (s : length bs ≤ limit) (m : Emitted (value bs) (put 0) a (put size) b) where
+  sized : size ≡ length bs
+  sized = at-within size (ran (value bs) o size m) ∙ advance-within 0 (length bs) (omega arith) ∙ zero-add (length bs)
+
+  pub row-done : {r : Put} {o' : List ℕ} → size ≤ length o → size < 2 ^ 63 → Emitted (value bs) (put 0) (take size o) r o'
+      → outcome (to_z w64 (of_z w64 (to_z w64 size))) (o' ++ drop size o) ≡ laid (value bs) o
+  row-done k j w = lay_done (value bs) o size m s (omega (arith, sized)) k j w
+
+  pub row-no-room : {z : ℤ} → length o < size → z ≡ neg_ℤ (pos 12) → outcome (to_z w64 (of_z w64 (to_z w64 (of_z w64 z)))) o ≡ laid (value bs) o
+  row-no-room k e = lay-no-room (value bs) o size m s (omega (arith, sized)) k e
+
+-- a refusal is replied at once
+pub row-refused : (n : ℕ) (o : List ℕ) {z : ℤ} → n < 256 → z ≡ neg_ℤ (pos n) → outcome (to_z w64 (of_z w64 (to_z w64 (of_z w64 z)))) o ≡ laid (refused n) o
+unfolding laid fitted fronted reply
+row-refused n o h k = ap (λ (z : ℤ). outcome z o) (minus-back n h k)
 
 -- ---- behind what was refused before
 

@@ -1,13 +1,16 @@
 -- What stands behind `parse`. Assumes nothing.
-use Rattle.std.specs.Prelude.{◌≡◌, List, ℕ, ◌+◌, ◌*◌, leb, ltb, eqb, length}
+use Rattle.std.specs.Prelude.{◌≡◌, List, ℕ, ◌+◌, ◌*◌, leb, ltb, eqb, length, Ok, Err, MatchResult, IsOkAnd}
 use Rattle.std.proofs.Common.{sym, ap, ◌∙◌, arith}
 use Rattle.util.specs.Read.{cond-elim}
 use Rattle.records.specs.Answer.{Answer, value, refused}
+use Rattle.std.specs.declared.result.Result.{Result}
+use Rattle.records.specs.Told.{refusal_number, told}
+use Rattle.records.specs.declared.answer.Refusal.{Refusal}
 use Rattle.records.specs.Layout.{size_of}
 use Rattle.records.specs.Record.{limit}
 use Rattle.typelib.specs.declared.TypeLib.{TypeLib}
 use Rattle.typelib.specs.Header.{header, p_seg, word, signature, directory_at, parse_of, parsed}
-use Rattle.replies.specs.Call.{refusal_of, library_in, past}
+use Rattle.replies.specs.Call.{refusal_of, library_in, past, in_library}
 use Rattle.replies.specs.CallLaws.{after_none, after-some}
 
 -- ---- `parse` refuses with no 0
@@ -50,3 +53,29 @@ unfolding refusal_of
 past-refused s n a e =
     let q : (parsed (parse_of s)).number ≡ n = ap (λ p. (parsed p).number) e in
     sym (after-some (parsed (parse_of s)).number a (λ z. parse-number s n (sym e) (sym q ∙ z))) ∙ ap refused q
+
+-- ---- a reading of what `parse` gives, or its refusal
+
+module _ {A B : Type 0} (tell : Result A Refusal → Answer B) (reading : TypeLib → Answer B) where
+  pub library-read : (s : List ℕ) (p : Result TypeLib Refusal) {x : Result A Refusal} {P : TypeLib → Type 0} → told p ≡ parse_of s
+      → MatchResult p P (λ e. x ≡ Err e) → ((lib : TypeLib) → P lib → tell x ≡ reading lib) → ((e : Refusal) → tell (Err e) ≡ refused (refusal_number e))
+      → tell x ≡ in_library s reading
+  library-read s (Ok lib) {x} e m h k =
+      let q : parse_of s ≡ value lib = sym e in
+      h lib m ∙ ap reading (sym (past-library s lib q)) ∙ sym (past_value s lib (reading (library_in s)) q)
+  library-read s (Err r) {x} e m h k = ap tell m ∙ k r ∙ sym (past-refused s (refusal_number r) (reading (library_in s)) (sym e))
+
+module _ {B : Type 0} (reading : TypeLib → Answer B) (s : List ℕ) (p : Result TypeLib Refusal) where
+  -- an answer of the library that it gives
+  pub in-library : {lib : TypeLib} {x : Answer B} → told p ≡ parse_of s → p ≡ Ok lib → x ≡ reading lib → x ≡ in_library s reading
+  in-library {lib} e k h =
+      let q : parse_of s ≡ value lib = sym e ∙ ap told k in
+      h ∙ ap reading (sym (past-library s lib q)) ∙ sym (past_value s lib (reading (library_in s)) q)
+
+  pub no-library : {r : Refusal} → told p ≡ parse_of s → p ≡ Err r → refused (refusal_number r) ≡ in_library s reading
+  no-library {r} e k = sym (past-refused s (refusal_number r) (reading (library_in s)) (sym e ∙ ap told k))
+
+-- a value that a library gives without fail
+pub ok-told : {A : Type 0} {P : A → Type 0} {v : A} (x : Result A Refusal) → IsOkAnd x P → ((y : A) → P y → y ≡ v) → told x ≡ value v
+ok-told (Ok y) m h = ap value (h y m)
+ok-told (Err e) m h = absurd m

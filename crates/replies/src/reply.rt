@@ -1,124 +1,132 @@
-// What the exports share: the number that `parse` refuses with, the replies, and rows laid into an
-// output.
-ghost use Rattle.std.specs.Prelude.{◌≡◌, ◌^◌, pos, neg_ℤ};
-ghost use Rattle.std.specs.Int.{w16, w64};
+// The replies, and rows laid into an output.
+ghost use Rattle.std.specs.Prelude.{◌≡◌, refl, ◌^◌, pos, neg_ℤ, ℕ, Ok, Err};
+ghost use Rattle.std.specs.Int.{w64};
+ghost use Rattle.std.specs.declared.result.Result.{Result};
 ghost use Rattle.std.proofs.Common.{to_z, of_z};
-ghost use Rattle.records.specs.Answer.{map};
-ghost use Rattle.records.specs.Told.{told_bool, told_i16, told_i32, told_kind, told_u16, told_u32, told_u8, told_usize};
+ghost use Rattle.records.specs.Answer.{Answer, map, value, refused};
+ghost use Rattle.records.specs.Told.{refusal_number, told};
+ghost use Rattle.records.specs.declared.answer.Refusal.{Refusal};
 ghost use Rattle.typelib.specs.Told.{told_offset};
-ghost use Rattle.replies.specs.Call.{refusal_of, after, reply_behind, reply, bits16, bits32, truth, kind_number, outcome, laid};
+ghost use Rattle.replies.specs.Call.{reply, bits16, bits32, truth, kind_number, outcome, laid};
 ghost use Rattle.replies.specs.Written.{below};
 ghost use Rattle.rows.specs.Told.{told_row};
 
-use records::answer::{
-    BoolAnswer, I16Answer, I32Answer, U8Answer, U16Answer, U32Answer, UsizeAnswer,
-};
-use records::typeinfo::KindAnswer;
+use records::answer::Refusal;
 use records::types::TypeKind;
 use rows::row::Row;
-use typelib::TypeLib;
-use typelib::typeinfos::OffsetAnswer;
+use typelib::TypeInfoOffset;
+
+// A value that is replied as a number of at most 32 bits. (Each type says itself how it becomes the number that C gets, and what is told of it.)
+pub trait Reply: Copy {
+    // What is replied of an answer.
+    ghost answer: { Result Self Refusal → Answer ℕ };
+
+    fn number(self) -> u32
+        ensures { answer (Ok self) ≡ value result };
+
+    ghost refuses: { (e : Refusal) → answer (Err e) ≡ refused (refusal_number e) };
+}
+
+impl Reply for u8 {
+    ghost answer = { told };
+
+    ghost refuses = { λ _. refl };
+
+    fn number(self) -> u32 {
+        self as u32
+    }
+}
+
+impl Reply for u16 {
+    ghost answer = { told };
+
+    ghost refuses = { λ _. refl };
+
+    fn number(self) -> u32 {
+        self as u32
+    }
+}
+
+impl Reply for u32 {
+    ghost answer = { told };
+
+    ghost refuses = { λ _. refl };
+
+    fn number(self) -> u32 {
+        self
+    }
+}
+
+// A signed number is replied by its bits.
+impl Reply for i16 {
+    ghost answer = { λ a. bits16 (told a) };
+
+    ghost refuses = { λ _. refl };
+
+    fn number(self) -> u32 {
+        self.cast_unsigned() as u32
+    }
+}
+
+impl Reply for i32 {
+    ghost answer = { λ a. bits32 (told a) };
+
+    ghost refuses = { λ _. refl };
+
+    fn number(self) -> u32 {
+        self.cast_unsigned()
+    }
+}
+
+impl Reply for bool {
+    ghost answer = { λ a. truth (told a) };
+
+    ghost refuses = { λ _. refl };
+
+    fn number(self) -> u32 {
+        rows::values::bit(self) as u32
+    }
+}
+
+impl Reply for TypeKind {
+    ghost answer = { λ a. map kind_number (told a) };
+
+    ghost refuses = { λ _. refl };
+
+    fn number(self) -> u32 {
+        kind_number(self) as u32
+    }
+}
+
+impl Reply for TypeInfoOffset {
+    ghost answer = { told_offset };
+
+    ghost refuses = { λ _. refl };
+
+    fn number(self) -> u32 {
+        self.0
+    }
+}
 
 // A refusal's reply.
-pub fn minus(number: u8) -> i64
-    ensures { result ≡ neg_ℤ (pos number) }
+pub fn minus(refusal: Refusal) -> i64
+    ensures { result ≡ neg_ℤ (pos (refusal_number refusal)) }
 {
-    -(number as i64)
+    -(refusal.number() as i64)
 }
 
-// The number that `parse` refuses with, or 0.
-pub fn refusal(s: &[u8]) -> u8
-    ensures { result ≡ refusal_of s.now }
+// The number, or the refusal. (It is stated of the bits of an i64, as a caller that hands it on reads it.)
+pub fn of<T: Reply>(answer: Result<T, Refusal>) -> i64
+    ensures { to_z w64 (of_z w64 result) ≡ reply (T.answer answer) }
 {
-    let p = TypeLib::parse(s);
-    p.number
-}
-
-// The replies. Each is stated of the bits of an i64, as a caller that hands it on reads it.
-
-pub fn of_u32(a: U32Answer) -> i64
-    ensures { to_z w64 (of_z w64 result) ≡ reply (told_u32 a) }
-{
-    match a {
-        U32Answer::Value(x) => x as i64,
-        U32Answer::Refused(n) => minus(n),
+    match answer {
+        Ok(x) => x.number() as i64,
+        Err(refusal) => minus(refusal),
     }
 }
 
-pub fn of_u16(a: U16Answer) -> i64
-    ensures { to_z w64 (of_z w64 result) ≡ reply (told_u16 a) }
-{
-    match a {
-        U16Answer::Value(x) => x as i64,
-        U16Answer::Refused(n) => minus(n),
-    }
-}
-
-pub fn of_u8(a: U8Answer) -> i64
-    ensures { to_z w64 (of_z w64 result) ≡ reply (told_u8 a) }
-{
-    match a {
-        U8Answer::Value(x) => x as i64,
-        U8Answer::Refused(n) => minus(n),
-    }
-}
-
-pub fn of_i32(a: I32Answer) -> i64
-    ensures { to_z w64 (of_z w64 result) ≡ reply (bits32 (told_i32 a)) }
-{
-    match a {
-        I32Answer::Value(x) => util::unsigned32(x) as i64,
-        I32Answer::Refused(n) => minus(n),
-    }
-}
-
-pub fn of_i16(a: I16Answer) -> i64
-    ensures { to_z w64 (of_z w64 result) ≡ reply (bits16 (told_i16 a)) }
-{
-    match a {
-        I16Answer::Value(x) => unsigned16(x) as i64,
-        I16Answer::Refused(n) => minus(n),
-    }
-}
-
-pub fn of_bool(a: BoolAnswer) -> i64
-    ensures { to_z w64 (of_z w64 result) ≡ reply (truth (told_bool a)) }
-{
-    match a {
-        BoolAnswer::Value(b) => rows::bit(b) as i64,
-        BoolAnswer::Refused(n) => minus(n),
-    }
-}
-
-pub fn of_kind(a: KindAnswer) -> i64
-    ensures { to_z w64 (of_z w64 result) ≡ reply (map kind_number (told_kind a)) }
-{
-    match a {
-        KindAnswer::Value(kind) => kind_number(kind) as i64,
-        KindAnswer::Refused(n) => minus(n),
-    }
-}
-
-pub fn of_offset(a: OffsetAnswer) -> i64
-    ensures { to_z w64 (of_z w64 result) ≡ reply (told_offset a) }
-{
-    match a {
-        OffsetAnswer::Value(x) => x.0 as i64,
-        OffsetAnswer::Refused(n) => minus(n),
-    }
-}
-
-// The two's complement of `x`.
-fn unsigned16(x: i16) -> u16
-    ensures { result ≡ of_z w16 x }
-{
-    if x < 0 {
-        0xffff - (!x as u16)
-    } else {
-        x as u16
-    }
-}
-
+// (The numbers are those that C gets. A cast gives none, as one variant holds its own.)
+#[tactic(auto, unfolding(crate::specs::Call::kind_number))]
 pub fn kind_number(kind: TypeKind) -> u8
     ensures { result ≡ kind_number kind }
 {
@@ -135,54 +143,34 @@ pub fn kind_number(kind: TypeKind) -> u8
     }
 }
 
-// How many bytes were written, or the refusal. (No output has 2^63 bytes.)
-pub fn of_written(a: UsizeAnswer) -> i64
-    ensures { to_z w64 (of_z w64 result) ≡ reply (map (below (2 ^ 63)) (told_usize a)) }
+// How many bytes were written, or the refusal. (No output has 2^63 bytes. The test is the one of the contract, `below`.)
+pub fn of_written(answer: Result<usize, Refusal>) -> i64
+    ensures { to_z w64 (of_z w64 result) ≡ reply (map (below (2 ^ 63)) (told answer)) }
 {
-    match a {
-        UsizeAnswer::Value(n) => {
+    match answer {
+        Ok(n) => {
             if n < 0x8000_0000_0000_0000 {
                 n as i64
             } else {
                 0
             }
         }
-        UsizeAnswer::Refused(n) => minus(n),
+        Err(refused) => minus(refused),
     }
 }
 
-// Lays the row into the output. A first run over no output tells the length or the refusal.
-pub fn lay(row: Row, out: &mut [u8]) -> i64
-    ensures { outcome (to_z w64 (of_z w64 result)) out.new ≡ laid (told_row row) out.old }
+// Lays the row into the output. A first run over no output tells the length.
+pub fn lay(answer: Result<Row, Refusal>, out: &mut [u8]) -> i64
+    ensures { outcome (to_z w64 (of_z w64 result)) out.new ≡ laid (told_row answer) out.old }
 {
-    let mut none: [u8; 0] = [];
-    let size = row_bytes::put_row(&mut none, 0, row);
-    if emit::PAST < size {
-        return minus(((size - emit::PAST - 1) % 256) as u8);
-    }
+    let row = match answer {
+        Ok(row) => row,
+        Err(refusal) => return minus(refusal),
+    };
+    let size = row_bytes::put_row(&mut [], 0, row);
     if out.len() < size {
-        return minus(12);
+        return minus(Refusal::NoSpace);
     }
     row_bytes::put_row(&mut out[..size], 0, row);
     size as i64
-}
-
-// Behind `parse`: where it refused, with `number`, its refusal comes first and nothing is written.
-
-pub fn behind(number: u8, told: i64) -> i64
-    ensures { to_z w64 (of_z w64 result) ≡ reply_behind number told }
-{
-    if number != 0 {
-        return minus(number);
-    }
-    told
-}
-
-pub fn lay_behind(number: u8, row: Row, out: &mut [u8]) -> i64
-    ensures { outcome (to_z w64 (of_z w64 result)) out.new ≡ laid (after number (told_row row)) out.old }
-{
-    if number != 0 {
-        return minus(number);
-    }
-    lay(row, out)
 }

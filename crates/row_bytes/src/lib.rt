@@ -1,25 +1,26 @@
 // The bytes of a row, laid into an output.
+// (The output and the place in it stand apart, as in the emitters of a sheet: as a struct they are handed on by way of memory, which is slower.)
 
 #![tactic(auto)]
 
 ghost use Rattle.std.specs.Prelude.{◌∷◌, [], ◌++◌, ◌≡◌};
 ghost use Rattle.records.specs.Answer.{value};
-ghost use Rattle.records.specs.Told.{told_place};
+ghost use Rattle.records.specs.Told.{told};
 ghost use Rattle.typelib.specs.Told.{told_imp_file};
 ghost use Rattle.typelib.specs.References.{external};
-ghost use Rattle.describe.specs.Constants.{number_in, place_in};
 ghost use Rattle.sheet_constants.specs.Told.{told_content, told_shape};
-ghost use Rattle.rows.specs.Told.{numbers_of, told_row};
+ghost use Rattle.rows.specs.Told.{bytes_of, numbers_of};
 ghost use Rattle.rows.specs.Values.{eights, five_words, place, opt_place, reference, span, content_bytes, constant, name_entry, name_numbers};
 ghost use Rattle.emit.specs.Emit.{Emits};
 
-use records::answer::{Place, PlaceAnswer};
+use records::answer::{Place, Refusal};
+use records::field::Record;
+use records::impfile::ImpFile;
 use records::name::NameEntry;
 use records::types::ConstValue;
 use rows::row::{Longs, Row};
 use sheet_constants::{Content, Shape};
 use table_cursors::iterators::NameCursor;
-use typelib::references::ImpFileAnswer;
 
 fn put_longs(out: &mut [u8], to: usize, l: Longs) -> usize
     ensures { Emits (value (eights (numbers_of l))) to out.old result out.new }
@@ -40,17 +41,6 @@ fn put_longs(out: &mut [u8], to: usize, l: Longs) -> usize
             let t = put_two(out, t, b, c);
             put_two(out, t, d, e)
         }
-        Longs::Six(a, b, c, d, e, f) => {
-            let t = put_two(out, to, a, b);
-            let t = put_two(out, t, c, d);
-            put_two(out, t, e, f)
-        }
-        Longs::Seven(a, b, c, d, e, f, g) => {
-            let t = emit::put_le(out, to, a, 8);
-            let t = put_two(out, t, b, c);
-            let t = put_two(out, t, d, e);
-            put_two(out, t, f, g)
-        }
     }
 }
 
@@ -68,20 +58,20 @@ fn put_place(out: &mut [u8], to: usize, p: Place) -> usize
 }
 
 // 0, or 1 and the place.
-fn put_opt_place(out: &mut [u8], to: usize, a: PlaceAnswer) -> usize
-    ensures { Emits (value (opt_place (told_place a))) to out.old result out.new }
+fn put_opt_place(out: &mut [u8], to: usize, a: Result<Place, Refusal>) -> usize
+    ensures { Emits (value (opt_place (told a))) to out.old result out.new }
 {
     match a {
-        PlaceAnswer::Value(p) => {
+        Ok(p) => {
             let t = emit::put_u8(out, to, 1);
             put_place(out, t, p)
         }
-        PlaceAnswer::Refused(_) => emit::put_u8(out, to, 0),
+        Err(_) => emit::put_u8(out, to, 0),
     }
 }
 
 // The record of an import, and the file that it names.
-fn put_import(out: &mut [u8], to: usize, info: Place, file: ImpFileAnswer) -> usize
+fn put_import(out: &mut [u8], to: usize, info: Place, file: Result<ImpFile, Refusal>) -> usize
     ensures { Emits (value (reference (external info (told_imp_file file)))) to out.old result out.new }
 {
     let t = emit::put_u8(out, to, 2);
@@ -89,47 +79,20 @@ fn put_import(out: &mut [u8], to: usize, info: Place, file: ImpFileAnswer) -> us
     put_opt_place(out, t, file_place(file))
 }
 
-fn file_place(file: ImpFileAnswer) -> PlaceAnswer
-    ensures { told_place result ≡ told_imp_file file }
+// (One line, as `rows::of` is: a closure for the method would be no shorter.)
+fn file_place(file: Result<ImpFile, Refusal>) -> Result<Place, Refusal>
+    ensures { told result ≡ told_imp_file file }
 {
-    match file {
-        ImpFileAnswer::Value(f) => PlaceAnswer::Value(Place {
-            at: f.at,
-            len: f.len,
-        }),
-        ImpFileAnswer::Refused(n) => PlaceAnswer::Refused(n),
-    }
-}
-
-// The number of a content, 0 where it is none.
-fn number_in(content: Content) -> u64
-    ensures { result ≡ number_in (told_content content) }
-{
-    match content {
-        Content::Bare => 0,
-        Content::Digits(n) => n,
-        Content::Span(_) => 0,
-    }
-}
-
-// The place of a content, refusal 9 where it is none.
-fn place_in(content: Content) -> PlaceAnswer
-    ensures { told_place result ≡ place_in (told_content content) }
-{
-    match content {
-        Content::Bare => PlaceAnswer::Refused(9),
-        Content::Digits(_) => PlaceAnswer::Refused(9),
-        Content::Span(p) => PlaceAnswer::Value(p),
-    }
+    Ok(file?.place())
 }
 
 // The place where there is one.
-fn put_span(out: &mut [u8], to: usize, a: PlaceAnswer) -> usize
-    ensures { Emits (value (span (told_place a))) to out.old result out.new }
+fn put_span(out: &mut [u8], to: usize, a: Result<Place, Refusal>) -> usize
+    ensures { Emits (value (span (told a))) to out.old result out.new }
 {
     match a {
-        PlaceAnswer::Value(p) => put_place(out, to, p),
-        PlaceAnswer::Refused(_) => to,
+        Ok(p) => put_place(out, to, p),
+        Err(_) => to,
     }
 }
 
@@ -139,10 +102,10 @@ fn put_content(out: &mut [u8], to: usize, shape: Shape, content: Content) -> usi
 {
     match shape {
         Shape::Empty => to,
-        Shape::Number(width) => emit::put_le(out, to, number_in(content), width),
-        Shape::Bit => emit::put_le(out, to, number_in(content), 1),
-        Shape::Octets(_) => put_span(out, to, place_in(content)),
-        Shape::Text => put_opt_place(out, to, place_in(content)),
+        Shape::Number(width) => emit::put_le(out, to, sheet_constants::number_in(content), width),
+        Shape::Bit => emit::put_le(out, to, sheet_constants::number_in(content), 1),
+        Shape::Octets(_) => put_span(out, to, sheet_constants::place_in(content)),
+        Shape::Text => put_opt_place(out, to, sheet_constants::place_in(content)),
     }
 }
 
@@ -168,10 +131,22 @@ fn put_entry(out: &mut [u8], to: usize, e: NameEntry) -> usize
         to,
         Longs::Three(e.offset as u64, text.at as u64, text.len as u64),
     );
-    let t = emit::put_u32(out, t, util::unsigned32(e.hreftype));
-    let t = emit::put_u32(out, t, util::unsigned32(e.next_hash));
+    let t = emit::put_u32(out, t, e.hreftype.cast_unsigned());
+    let t = emit::put_u32(out, t, e.next_hash.cast_unsigned());
     let t = emit::put_le(out, t, e.flags as u64, 1);
     emit::put_u16(out, t, e.hashcode)
+}
+
+// A record's place, its number, and the numbers of the cursor behind it.
+fn put_step(out: &mut [u8], to: usize, record: Place, number: u64, next: Longs) -> usize
+    ensures { Emits (value (eights (record.at ∷ record.len ∷ number ∷ numbers_of next))) to out.old result out.new }
+{
+    let t = put_longs(
+        out,
+        to,
+        Longs::Three(record.at as u64, record.len as u64, number),
+    );
+    put_longs(out, t, next)
 }
 
 // The entry, its number, and the cursor behind it.
@@ -203,9 +178,9 @@ fn put_figures(out: &mut [u8], to: usize, a: u32, b: u32, c: u32, d: u32, e: u32
     emit::put_u32(out, t, e)
 }
 
-// The bytes of a row, or its refusal.
+// The bytes of a row. (Each variant has its own bytes, as in `put_longs` and `put_content`: rows that hold closures would need the heap.)
 pub fn put_row(out: &mut [u8], to: usize, row: Row) -> usize
-    ensures { Emits (told_row row) to out.old result out.new }
+    ensures { Emits (value (bytes_of row)) to out.old result out.new }
 {
     match row {
         Row::Plain(l) => put_longs(out, to, l),
@@ -213,6 +188,7 @@ pub fn put_row(out: &mut [u8], to: usize, row: Row) -> usize
             let t = emit::put_u32(out, to, a);
             emit::put_u32(out, t, b)
         }
+        Row::Step(record, number, next) => put_step(out, to, record, number, next),
         Row::Chain(l, next, yielded) => {
             let t = put_longs(out, to, l);
             let t = emit::put_u32(out, t, next);
@@ -234,6 +210,5 @@ pub fn put_row(out: &mut [u8], to: usize, row: Row) -> usize
         Row::Constant(v) => put_constant(out, to, v),
         Row::Entry(e, number, c) => put_name_step(out, to, e, number, c),
         Row::Figures(a, b, c, d, e) => put_figures(out, to, a, b, c, d, e),
-        Row::Refused(n) => emit::put_refusal(to, n),
     }
 }

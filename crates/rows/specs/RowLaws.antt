@@ -1,5 +1,5 @@
 -- A row is short. Assumes nothing.
-use Rattle.std.specs.Prelude.{◌≡◌, Bool, true, false, ◌&&◌, List, [], ◌∷◌, map, ℕ, zero, suc, ◌+◌, ◌*◌, ◌≤◌, T, leb, eqb, length, get_or}
+use Rattle.std.specs.Prelude.{◌≡◌, Bool, true, false, ◌&&◌, List, [], ◌∷◌, map, ℕ, zero, suc, ◌+◌, ◌*◌, ◌≤◌, T, leb, eqb, length, get_or, Ok, Err}
 use Rattle.std.proofs.Common.{arith, leb→le, length-append}
 use Rattle.std.proofs.Math.ListN.{get_or-map}
 use Rattle.util.specs.Read.{cond-elim}
@@ -7,13 +7,15 @@ use Rattle.records.specs.Answer.{Answer, value, refused}
 use Rattle.records.specs.Record.{limit}
 use Rattle.records.specs.Types.{vt_of}
 use Rattle.records.specs.declared.answer.Place.{Place}
+use Rattle.records.specs.declared.answer.Refusal.{Refusal}
+use Rattle.std.specs.declared.result.Result.{Result}
 use Rattle.records.specs.declared.types.ConstValue.{ConstValue}
 use Rattle.typelib.specs.Told.{told_imp_file}
 use Rattle.description.specs.Format.{length-le_bytes}
 use Rattle.description.specs.Description.{Shape, shapes, shape_of}
 use Rattle.describe.specs.Constants.{Content, content_of, place_in}
 use Rattle.rows.specs.Values.{eights, opt_place, span, content_bytes, constant}
-use Rattle.rows.specs.Told.{numbers_of, told_row}
+use Rattle.rows.specs.Told.{numbers_of, bytes_of, told_row}
 use Rattle.rows.specs.declared.row.Longs.{Longs}
 use Rattle.rows.specs.declared.row.Longs.TheVariants as longs
 use Rattle.rows.specs.declared.row.Row.{Row}
@@ -27,14 +29,12 @@ length-eights : (xs : List ℕ) → length (eights xs) ≡ 8 * length xs
 length-eights [] = omega arith
 length-eights (x ∷ xs) = simp (length-append, length-le_bytes) (omega (arith, length-eights xs))
 
-longs-short : (l : Longs) → length (numbers_of l) ≤ 7
+longs-short : (l : Longs) → length (numbers_of l) ≤ 5
 longs-short (longs.One a) = omega arith
 longs-short (longs.Two a b) = omega arith
 longs-short (longs.Three a b c) = omega arith
 longs-short (longs.Four a b c d) = omega arith
 longs-short (longs.Five a b c d e) = omega arith
-longs-short (longs.Six a b c d e f) = omega arith
-longs-short (longs.Seven a b c d e f g) = omega arith
 
 opt-short : (a : Answer Place) → length (opt_place a) ≤ 17
 opt-short (value p) = omega (arith, length-eights (p.at ∷ p.len ∷ []))
@@ -83,15 +83,19 @@ unfolding constant
 constant-short v =
     simp (length-append, length-le_bytes) (omega (arith, content-short (shape_of (vt_of v)) (content_of v), shape-short (vt_of v)))
 
-pub row-short : (r : Row) → length_of (told_row r) ≤ limit
-row-short (row.Plain l) = omega (arith, length-eights (numbers_of l), longs-short l)
-row-short (row.Words a b) = simp (length-append, length-le_bytes) (omega arith)
-row-short (row.Chain l next yielded) = simp (length-append, length-le_bytes, length-eights) (omega (arith, longs-short l))
-row-short (row.Marked m l) = omega (arith, length-eights (numbers_of l), longs-short l)
-row-short (row.Half m a) = simp length-le_bytes (omega arith)
-row-short (row.Word m a) = simp length-le_bytes (omega arith)
-row-short (row.Import p f) = simp (length-append, length-le_bytes) (omega (arith, opt-short (told_imp_file f)))
-row-short (row.Constant v) = omega (arith, constant-short v)
-row-short (row.Entry e number c) = simp (length-append, length-le_bytes) (omega arith)
-row-short (row.Figures a b c d e) = simp (length-append, length-le_bytes) (omega arith)
-row-short (row.Refused n) = omega arith
+pub bytes-short : (r : Row) → length (bytes_of r) ≤ limit
+bytes-short (row.Plain l) = omega (arith, length-eights (numbers_of l), longs-short l)
+bytes-short (row.Words a b) = simp (length-append, length-le_bytes) (omega arith)
+bytes-short (row.Step p number l) = omega (arith, length-eights (p.at ∷ p.len ∷ number ∷ numbers_of l), longs-short l)
+bytes-short (row.Chain l next yielded) = simp (length-append, length-le_bytes, length-eights) (omega (arith, longs-short l))
+bytes-short (row.Marked m l) = omega (arith, length-eights (numbers_of l), longs-short l)
+bytes-short (row.Half m a) = simp length-le_bytes (omega arith)
+bytes-short (row.Word m a) = simp length-le_bytes (omega arith)
+bytes-short (row.Import p f) = simp (length-append, length-le_bytes) (omega (arith, opt-short (told_imp_file f)))
+bytes-short (row.Constant v) = omega (arith, constant-short v)
+bytes-short (row.Entry e number c) = simp (length-append, length-le_bytes) (omega arith)
+bytes-short (row.Figures a b c d e) = simp (length-append, length-le_bytes) (omega arith)
+
+pub row-short : (r : Result Row Refusal) → length_of (told_row r) ≤ limit
+row-short (Ok r) = bytes-short r
+row-short (Err e) = omega arith

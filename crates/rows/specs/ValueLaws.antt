@@ -50,17 +50,9 @@ pub five : {l : Longs} {a b c d e : ℕ} → l ≡ longs.Five a b c d e
 five {l} {a} {b} {c} {d} {e} h =
     ap (λ (k : List ℕ). value (le_bytes 8 a ++ k)) (eights-append (b ∷ c ∷ []) (d ∷ e ∷ [])) ∙ shown long_bytes h
 
-pub six : {l : Longs} {a b c d e f : ℕ} → l ≡ longs.Six a b c d e f
-    → value (eights (a ∷ b ∷ []) ++ (eights (c ∷ d ∷ []) ++ eights (e ∷ f ∷ []))) ≡ long_bytes l
-six {l} {a} {b} {c} {d} {e} {f} h =
-    ap (λ (k : List ℕ). value (eights (a ∷ b ∷ []) ++ k)) (eights-append (c ∷ d ∷ []) (e ∷ f ∷ []))
-    ∙ ap value (eights-append (a ∷ b ∷ []) (c ∷ d ∷ e ∷ f ∷ [])) ∙ shown long_bytes h
-
-pub seven : {l : Longs} {a b c d e f g : ℕ} → l ≡ longs.Seven a b c d e f g
-    → value (le_bytes 8 a ++ (eights (b ∷ c ∷ []) ++ (eights (d ∷ e ∷ []) ++ eights (f ∷ g ∷ [])))) ≡ long_bytes l
-seven {l} {a} {b} {c} {d} {e} {f} {g} h =
-    ap (λ (k : List ℕ). value (le_bytes 8 a ++ (eights (b ∷ c ∷ []) ++ k))) (eights-append (d ∷ e ∷ []) (f ∷ g ∷ []))
-    ∙ ap (λ (k : List ℕ). value (le_bytes 8 a ++ k)) (eights-append (b ∷ c ∷ []) (d ∷ e ∷ f ∷ g ∷ [])) ∙ shown long_bytes h
+-- a record's place, its number and the numbers of a cursor
+pub step-laid : (p : Place) (n : ℕ) (l : Longs) → value (eights (p.at ∷ p.len ∷ n ∷ []) ++ eights (numbers_of l)) ≡ value (eights (p.at ∷ p.len ∷ n ∷ numbers_of l))
+step-laid p n l = ap value (eights-append (p.at ∷ p.len ∷ n ∷ []) (numbers_of l))
 
 -- ---- references and constants
 

@@ -1,11 +1,14 @@
 // What is laid into an output: a row of numbers, each with its width. (`row_bytes` writes its bytes.)
-use records::answer::Place;
+ghost use Rattle.std.specs.Prelude.{◌≡◌, List, ℕ};
+ghost use Rattle.rows.specs.Told.{bytes_of, numbers_of};
+
+use records::answer::{Place, Refusal};
+use records::impfile::ImpFile;
 use records::name::NameEntry;
 use records::types::ConstValue;
 use table_cursors::iterators::NameCursor;
-use typelib::references::ImpFileAnswer;
 
-// Numbers of eight bytes each.
+// Numbers of eight bytes each. (No slice: a row is handed on whole, and there is no heap.)
 #[derive(Clone, Copy)]
 pub enum Longs {
     One(u64),
@@ -13,14 +16,14 @@ pub enum Longs {
     Three(u64, u64, u64),
     Four(u64, u64, u64, u64),
     Five(u64, u64, u64, u64, u64),
-    Six(u64, u64, u64, u64, u64, u64),
-    Seven(u64, u64, u64, u64, u64, u64, u64),
 }
 
 #[derive(Clone, Copy)]
 pub enum Row {
     Plain(Longs),
     Words(u32, u32),
+    // A record's place and its number, and the numbers of the cursor behind it.
+    Step(Place, u64, Longs),
     // A chain's cursor, and a record and its number before it: the next offset has four bytes.
     Chain(Longs, u32, u64),
     // A code of one byte, and what it announces; or a truth, and numbers beside it.
@@ -28,11 +31,26 @@ pub enum Row {
     Half(u8, u16),
     Word(u8, u32),
     // The record of an import, and the file that it names.
-    Import(Place, ImpFileAnswer),
+    Import(Place, Result<ImpFile, Refusal>),
     Constant(ConstValue),
     // An entry, its number, and the cursor behind it.
     Entry(NameEntry, u64, NameCursor),
     // A sheet's length, and what it reads: functions, parameters, variables, references.
     Figures(u32, u32, u32, u32, u32),
-    Refused(u8),
+}
+
+// A value that is laid as a row.
+pub trait Laid: Copy {
+    ghost bytes: { Self → List ℕ };
+
+    fn row(self) -> Row
+        ensures { bytes_of result ≡ bytes self };
+}
+
+// A cursor that is laid as its numbers.
+pub trait Cursor: Copy {
+    ghost numbers: { Self → List ℕ };
+
+    fn numbers(self) -> Longs
+        ensures { numbers_of result ≡ numbers self };
 }

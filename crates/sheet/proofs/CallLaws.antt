@@ -9,18 +9,23 @@ use lib.Seq.{take-nil, length-take-le}
 use borrow.Author.Tests.{le-leb, lt-leb, lt-ltb, le-ltb}
 use Rattle.records.specs.Answer.{Answer, value, refused, map, bind}
 use Rattle.records.specs.Record.{limit}
-use Rattle.typelib.specs.declared.Parsed.{Parsed}
-use Rattle.typelib.specs.Header.{parse_of, parsed, type_count}
+use Rattle.records.specs.declared.answer.Refusal.{Refusal}
+use Rattle.records.specs.Told.{refusal_number}
+use Rattle.typelib.specs.declared.TypeLib.{TypeLib}
+use Rattle.typelib.specs.Header.{parse_of, type_count}
 use Rattle.description.specs.Description.{Bytes}
 use Rattle.description.specs.Sheet.{edition-one, sheet_bytes}
 use Rattle.describe.specs.Values.{Octets}
 use Rattle.describe.specs.Describe.{header_of, types_of, describe_as, describe}
-use Rattle.describe.specs.ParsedLaws.{parse-refused, parse-read}
+use Rattle.describe.specs.Types.{types_from}
+use Rattle.describe.specs.Answers.{answers-map, answers-mono, answers-all}
+use Rattle.describe.specs.Refusals.{Sound, types-sound}
 use Rattle.describe.specs.Call.{within, sheet_of, written, Call}
 use Rattle.emit.specs.Emit.{Put}
 use Rattle.emit.specs.Emit.{At, Refused, past, put}
 use Rattle.emit.specs.Laws.{put-at, put_refused, filled}
 use Rattle.emit.specs.Emit.{advance, moved, Emitted}
+use Rattle.sheet_sizes.proofs.RefusalLaws.{same-number}
 use Rattle.sheet.specs.Contents.{sheet_emitted, Answered, Made}
 
 -- ---- measuring and writing
@@ -34,13 +39,11 @@ module _ (size : ℕ) where
   first : (x : Answer Bytes) → put size ≡ moved (put 0) x → put size ≡ moved (At 0) x
   first x e = e ∙ ap (λ (t : Put). moved t x) (put-at 0 (omega arith))
 
-  pub whole-refused : (x : Answer Bytes) {o : List ℕ} {n : ℕ} → put size ≡ moved (put 0) x → past < size → n ≡ (size - suc past) % 256 → Answered x o (refused n) o
+  pub whole-refused : (x : Answer Bytes) {o : List ℕ} {r : Refusal} → Sound x → put size ≡ moved (put 0) x → past < size
+      → ((e : Refusal) → put size ≡ Refused (refusal_number e) → r ≡ e) → Answered x o (refused (refusal_number r)) o
   unfolding written
-  whole-refused (value bs) {o} {n} m h e = absurd (let q : At (advance 0 (length bs)) ≡ Refused ((size - suc past) % 256) = sym (first (value bs) m) ∙ put_refused size h in let z : ◌≡◌ {A = ℕ} 0 1 = cc in omega arith)
-  whole-refused (refused k) {o} {n} m h e =
-      let z : Refused ((size - suc past) % 256) ≡ Refused k = sym (put_refused size h) ∙ first (refused k) m in
-      let q : (size - suc past) % 256 ≡ k = cc in
-      record { replies = ap refused (e ∙ q); leaves = refl }
+  whole-refused (value bs) sound m h f = absurd (let q : At (advance 0 (length bs)) ≡ Refused ((size - suc past) % 256) = sym (first (value bs) m) ∙ put_refused size h in let z : ◌≡◌ {A = ℕ} 0 1 = cc in omega arith)
+  whole-refused (refused k) sound m h f = record { replies = ap refused (same-number size sound refl (first (refused k) m) f); leaves = refl }
 
   pub whole_long : (x : Answer Bytes) {o : List ℕ} → put size ≡ moved (put 0) x → size ≤ past → limit < size → Answered x o (refused 12) o
   unfolding within written
@@ -103,24 +106,33 @@ joined-answer : {A : Type 0} (f : A → Bytes) (room : ℕ) (a : Answer A) → b
 joined-answer f room (value d) = refl
 joined-answer f room (refused n) = refl
 
-module _ (s : List ℕ) (octets : Octets s) (p : Parsed) (e : p ≡ parsed (parse_of s)) where
-  pub call-refused : {o : List ℕ} → (p.number ≡ 0 → ⊥) → Call edition-one s o (refused p.number) o
+module _ (s : List ℕ) (octets : Octets s) where
+  pub call-refused : {o : List ℕ} {a : Answer ℕ} {n : ℕ} → refused n ≡ parse_of s → a ≡ refused n → Call edition-one s o a o
   unfolding sheet_of describe written
-  call-refused h = record { replies = rw (parse-refused s p e h); leaves = rw (parse-refused s p e h); octets = octets }
+  call-refused e f = record { replies = rw (f, ← e); leaves = rw (← e); octets = octets }
 
-  module _ (zero : p.number ≡ 0) where
-    pub call-many : {o : List ℕ} → 65535 < type_count p.lib → Call edition-one s o (refused 13) o
+  module _ {lib : TypeLib} (e : value lib ≡ parse_of s) where
+    pub call-many : {o : List ℕ} → 65535 < type_count lib → Call edition-one s o (refused 13) o
     unfolding sheet_of describe describe_as written
-    call-many h = record { replies = rw (parse-read s p e zero, lt-ltb 65535 (type_count p.lib) h); leaves = rw (parse-read s p e zero, lt-ltb 65535 (type_count p.lib) h); octets = octets }
+    call-many h = record { replies = rw (← e, lt-ltb 65535 (type_count lib) h); leaves = rw (← e, lt-ltb 65535 (type_count lib) h); octets = octets }
 
-    is-emitted : (room : ℕ) → type_count p.lib ≤ 65535 → sheet_of edition-one s room ≡ bind (sheet_emitted s p.lib) (within room)
+    is-emitted : (room : ℕ) → type_count lib ≤ 65535 → sheet_of edition-one s room ≡ bind (sheet_emitted s lib) (within room)
     unfolding sheet_of describe describe_as sheet_emitted
-    is-emitted room h = rw (parse-read s p e zero, le-ltb 65535 (type_count p.lib) h) (joined-answer (sheet_bytes edition-one) room (map (λ types. record { header = header_of s p.lib; types = types }) (types_of s p.lib)))
+    is-emitted room h = rw (← e, le-ltb 65535 (type_count lib) h) (joined-answer (sheet_bytes edition-one) room (map (λ types. record { header = header_of s lib; types = types }) (types_of s lib)))
 
-    pub call-answered : {o o' : List ℕ} {r : Answer ℕ} → type_count p.lib ≤ 65535 → Answered (sheet_emitted s p.lib) o r o' → Call edition-one s o r o'
+    pub call-answered : {o o' : List ℕ} {r : Answer ℕ} → type_count lib ≤ 65535 → Answered (sheet_emitted s lib) o r o' → Call edition-one s o r o'
     call-answered {o} {o'} {r} h a =
         record {
           replies = a.replies ∙ ap (map length) (sym (is-emitted (length o) h));
           leaves = a.leaves ∙ ap (written o) (sym (is-emitted (length o) h));
           octets = octets;
         }
+
+-- a sheet that is refused has one of a description's numbers
+pub emitted-sound : (s : List ℕ) (lib : TypeLib) → Sound (sheet_emitted s lib)
+unfolding sheet_emitted
+emitted-sound s lib =
+    let all-sound : Sound (types_of s lib) = answers-mono (answers-all (types_from s lib (type_count lib) 0) (types-sound s lib (type_count lib) 0)) (λ n k. k) (λ ys _. tt) in
+    let library-sound : Sound (map (λ types. record { header = header_of s lib; types = types }) (types_of s lib)) =
+    answers-map (λ types. record { header = header_of s lib; types = types }) all-sound (λ _ _. tt) in
+    answers-map (sheet_bytes edition-one) library-sound (λ _ _. tt)

@@ -200,6 +200,10 @@ module _ (s : List ℕ) (lib : TypeLib) where
   pub types-refused : (n i : ℕ) {t₀ : Put} {t : ℕ} {o₀ o : List ℕ} → past < t → LeftFrom n t₀ o₀ i (put t) o → Twofold (lens n 0) (bodies s lib n 0) 8 t₀ o₀ (put t) o
   types-refused n i {t₀} {t} {o₀} {o} h left = left.finish (put t) o (two-refused (lens (n - i) i) (bodies s lib (n - i) i) (put_refused t h))
 
+  -- the same, where the place that the emitter was to stop at is not further
+  pub types-stopped : (n i : ℕ) {t₀ : Put} {t r : ℕ} {o₀ o : List ℕ} → r ≡ max t past → past < t → LeftFrom n t₀ o₀ i (put t) o → Twofold (lens n 0) (bodies s lib n 0) 8 t₀ o₀ (put r) o
+  types-stopped n i {t₀} {t} {r} m h left = let e : r ≡ t = omega (arith, m, h) in rw e (types-refused n i h left)
+
 -- ---- the whole
 
 -- n lengths and the bodies, or no more than a refusal

@@ -51,15 +51,13 @@ fn put_types(s: &[u8], lib: &Numbers, most: usize, out: &mut [u8], to: usize) ->
 {
     let count = tables::count(lib) as usize;
     let mut t = to;
-    let mut i: usize = 0;
-    while i < count {
+    for i in 0..count {
         if most < t {
-            return if t < emit::PAST { emit::PAST } else { t };
+            return t.max(emit::PAST);
         }
         let end = sheet_types::put_type_of(&*s, lib, TypeInfoIndex(i), out, t);
         patch(t, end, TYPE_LENGTHS + 4 * i, out);
         t = end;
-        i += 1;
     }
     t
 }

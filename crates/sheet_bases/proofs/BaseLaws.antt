@@ -1,13 +1,9 @@
 -- What a type is based on: its emissions, one behind the other, are those of its format. Assumes nothing.
 use Rattle.typelib.specs.Header.{type_count}
-use mathlib.Core.Path.{◌≡◌, refl, sym, ap, ◌∙◌}
-use mathlib.Core.List.{List, [], ◌∷◌, ◌++◌}
+use Rattle.std.specs.Prelude.{◌≡◌, refl, List, [], ◌∷◌, ◌++◌, ℕ, zero, suc, ◌+◌, ◌≤◌, ◌<◌, length, drop}
+use Rattle.std.proofs.Common.{sym, ap, ◌∙◌, add-one, arith, drop_of_length-le, drop-cons}
+use Rattle.std.proofs.lemmas.List.{length-map}
 use mathlib.Core.List as lists
-use Prim.Native.Nat.{ℕ, zero, suc, ◌+◌, ◌≤◌, ◌<◌}
-use native.Mathlib.Numerals.{add-one}
-use native.Mathlib.Omega.{arith}
-use lib.ListN.{length, drop, length-map, drop_of_length-le}
-use lib.Seq.{drop-cons}
 use Rattle.util.specs.Read.{read, or_zero}
 use Rattle.records.specs.declared.answer.Place.{Place}
 use Rattle.records.specs.declared.typeinfo.TypeInfoEntry.{TypeInfoEntry}
@@ -113,10 +109,18 @@ module _ (s : List ℕ) (lib : TypeLib) where
     unfolding base_emitted
     shaped k h e = ap (shape_emitted s lib ti) (sym e)
 
-    pub base-parent : {x : ℕ} (k : ℕ) → x ≡ or_zero (read 4 s (ti.at + 84)) → base_shape_of k ≡ parent
+    parent-shape : (k : ℕ) → 3 ≤ k → k < 5 → base_shape_of k ≡ parent
+    parent-shape zero a b = absurd (omega (arith, a))
+    parent-shape (suc zero) a b = absurd (omega (arith, a))
+    parent-shape (suc (suc zero)) a b = absurd (omega (arith, a))
+    parent-shape (suc (suc (suc zero))) a b = refl
+    parent-shape (suc (suc (suc (suc zero)))) a b = refl
+    parent-shape (suc (suc (suc (suc (suc k))))) a b = absurd (omega (arith, b))
+
+    pub base-parent : {x : ℕ} (k : ℕ) → x ≡ or_zero (read 4 s (ti.at + 84)) → 3 ≤ k → k < 5
         → value (encode (reference edition-one (type_count lib)) (reference_of s lib x)) ≡ base_emitted s lib ti k
     unfolding shape_emitted
-    base-parent {x} k e h = ap (λ y. value (encode (reference edition-one (type_count lib)) (reference_of s lib y))) e ∙ shaped k parent h
+    base-parent {x} k e g h = ap (λ y. value (encode (reference edition-one (type_count lib)) (reference_of s lib y))) e ∙ shaped k parent (parent-shape k g h)
 
     pub base-chain : (k : ℕ) → k ≡ 5 → map (encode (list u32 (impl_type edition-one (type_count lib)))) (impl_types_at s lib ti) ≡ base_emitted s lib ti k
     unfolding shape_emitted

@@ -1,21 +1,23 @@
 // What a type is based on: the interface under it, the interfaces that it implements, or the type that it names.
+// (What an emitter takes stands apart: a struct of more than two numbers is handed on by way of memory, which made sheets slower.)
 
 #![tactic(auto)]
 
 ghost use Rattle.std.specs.Prelude.{◌≡◌};
 ghost use Rattle.records.specs.Answer.{value};
-ghost use Rattle.impltypes.specs.Chain.{walk_of, told_walk};
+ghost use Rattle.impltypes.specs.Chain.{walk_of};
 ghost use Rattle.sheet_bases.specs.Bases.{base_emitted, chain_emitted, links_bytes, impl_type_emitted, impl_types_emitted};
 ghost use Rattle.emit.specs.Emit.{Emits};
 ghost use Rattle.typelib.specs.Header.{library};
 
-use impltypes::{ImplTypeCursor, ImplTypeStep, ImplTypesAnswer, WalkAnswer};
+use cursors::iterators::Step;
+use impltypes::ImplTypeCursor;
 use records::refrecord::RefRecord;
 use records::typeinfo::TypeInfoEntry;
 use sheet_trees::{references, trees};
 use typelib::Numbers;
 
-// The base of a type of that kind.
+// The base of a type of that kind. (The kind is the number that the type's head emits, whatever it is: those with a base have an arm.)
 pub fn put_base(
     s: &[u8],
     lib: &Numbers,
@@ -27,8 +29,7 @@ pub fn put_base(
     ensures { Emits (base_emitted s.now (library lib.now) ti kind) to out.old result out.new }
 {
     match kind {
-        3 => references::put_reference(&*s, lib, emit::word_at(&*s, ti.at, 0x54), out, to),
-        4 => references::put_reference(&*s, lib, emit::word_at(&*s, ti.at, 0x54), out, to),
+        3 | 4 => references::put_reference(&*s, lib, emit::word_at(&*s, ti.at, 0x54), out, to),
         5 => put_chain(&*s, lib, ti, out, to),
         6 => trees::put_tree(&*s, lib, emit::word_at(&*s, ti.at, 0x54), out, to),
         _ => to,
@@ -36,33 +37,25 @@ pub fn put_base(
 }
 
 // The chain of implemented types: how many the full walk takes, and each; 10 where it comes round.
+// (`put_type_of` has this form alone: what is read and what is emitted are others, and closures for both would be longer.)
 fn put_chain(s: &[u8], lib: &Numbers, ti: TypeInfoEntry, out: &mut [u8], to: usize) -> usize
     ensures { Emits (impl_types_emitted s.now (library lib.now) ti) to out.old result out.new }
 {
     match impltypes::impl_types_at(lib, &*s, ti) {
-        ImplTypesAnswer::Value(cursor) => put_walked(&*s, lib, cursor, cursor.walk(&*s), out, to),
-        ImplTypesAnswer::Refused(n) => emit::put_refusal(to, n),
+        Ok(cursor) => put_walked(&*s, lib, cursor, out, to),
+        Err(refusal) => emit::put_refusal(to, refusal),
     }
 }
 
-fn put_walked(
-    s: &[u8],
-    lib: &Numbers,
-    cursor: ImplTypeCursor,
-    walk: WalkAnswer,
-    out: &mut [u8],
-    to: usize,
-) -> usize
-    requires { told_walk walk ≡ walk_of s.now cursor }
+fn put_walked(s: &[u8], lib: &Numbers, cursor: ImplTypeCursor, out: &mut [u8], to: usize) -> usize
     ensures { Emits (chain_emitted s.now (library lib.now) cursor) to out.old result out.new }
 {
-    match walk {
-        WalkAnswer::Took(count) => {
-            let t = emit::put_le(out, to, count as u64, 4);
-            put_links(&*s, lib, cursor, count, out, t)
-        }
-        WalkAnswer::Refused(n) => emit::put_refusal(to, n),
-    }
+    let count = match cursor.walk(&*s) {
+        Ok(count) => count,
+        Err(refusal) => return emit::put_refusal(to, refusal),
+    };
+    let t = emit::put_le(out, to, count as u64, 4);
+    put_links(&*s, lib, cursor, count, out, t)
 }
 
 // The `count` records that the walk took.
@@ -79,14 +72,12 @@ fn put_links(
 {
     let mut t = to;
     let mut c = cursor;
-    let mut k: usize = 0;
-    while k < count {
-        let ImplTypeStep::Record(link, _, next) = c.step(&*s) else {
+    for _ in 0..count {
+        let Step::Record(link, _, next) = c.step(&*s) else {
             return t;
         };
         t = put_link(&*s, lib, link, out, t);
         c = next;
-        k += 1;
     }
     t
 }

@@ -1,11 +1,7 @@
 -- The bytes of a constant, as they are emitted. Assumes nothing.
-use Rattle.std.specs.Prelude.{◌≡◌, refl, cond, List, [], ◌∷◌, ◌++◌, map, ℕ, ◌^◌, ◌≤◌, ◌<◌, eqb, length, get_or, ℤ}
+use Rattle.std.specs.Prelude.{◌≡◌, refl, cond, List, [], ◌∷◌, ◌++◌, map, ℕ, ◌≤◌, ◌<◌, eqb, length, get_or, ◌^◌, ℤ}
 use Rattle.std.proofs.Common.{sym, ap, ◌∙◌, arith, ne_eqb}
 use Rattle.std.proofs.Math.ListN.{get_or-map, get_or-eq_default}
-use Rattle.std.specs.Int.Signed.{mag}
-use Rattle.std.specs.Int.{Width}
-use mir.Val.{hbits, to_z, of_z}
-use Rattle.std.proofs.lemmas.Int.{to_z-of_z}
 use Rattle.util.specs.Read.{cond-elim}
 use Rattle.records.specs.declared.answer.Place.{Place}
 use Rattle.records.specs.declared.types.ConstValue.{ConstValue}
@@ -22,17 +18,10 @@ use Rattle.description.specs.ByteLayout.{opt_none, opt-some, null-bytes, text-by
 use Rattle.describe.specs.Values.{bytes_in}
 use Rattle.describe.specs.Constants.{Content, content_of, number_in, place_in, or_empty, constant_from, constant_of}
 use Rattle.sheet_constants.specs.Bytes.{mark_of, text_bytes, value_bytes}
-
--- ---- what a constant holds
-
--- of a constant that a match took apart
-pub content-is : {v w : ConstValue} → v ≡ w → content_of w ≡ content_of v
-content-is e = ap content_of (sym e)
-
--- a signed number, which a call takes by its bits
-pub signed-digits : (w : Width) (x : ℤ) {n : ℕ} → mag x < 2 ^ hbits w → n ≡ of_z w (to_z w (of_z w x))
-    → Content.digits n ≡ Content.digits (of_z w x)
-signed-digits w x h e = ap Content.digits (e ∙ ap (of_z w) (to_z-of_z w x (record { sfits = h })))
+use Rattle.std.specs.Int.Signed.{mag}
+use Rattle.std.specs.Int.{Width}
+use mir.Val.{hbits, to_z, of_z}
+use Rattle.std.proofs.lemmas.Int.{to_z-of_z}
 
 -- ---- the shape of a code
 
@@ -126,3 +115,14 @@ module _ (s : List ℕ) (lib : TypeLib) (word : ℕ) where
       → value (1 ∷ encode constant (constant_from s v)) ≡ value (encode (opt constant) (constant_of s lib word))
   unfolding constant_of
   some-laid {v} e = rw (sym e) (ap value (sym (opt-some constant (constant_from s v))))
+
+-- ---- the same by cases
+
+-- of a constant that a match took apart
+pub content-is : {v w : ConstValue} → v ≡ w → content_of w ≡ content_of v
+content-is e = ap content_of (sym e)
+
+-- a signed number, which a call takes by its bits
+pub signed-digits : (w : Width) (x : ℤ) {n : ℕ} → mag x < 2 ^ hbits w → n ≡ of_z w (to_z w (of_z w x))
+    → Content.digits n ≡ Content.digits (of_z w x)
+signed-digits w x h e = ap Content.digits (e ∙ ap (of_z w) (to_z-of_z w x (record { sfits = h })))

@@ -1,11 +1,13 @@
 // Emitters of constants (document 01, "The sheet (added)"): the code of the case that was read, and then
 // the value, laid out by the shape that the code has.
+// (A code is a number of the file, and any may stand there: so it stays a number. The bytes, the library's numbers, the output and the place go in
+// apart: a struct of them is handed on by way of memory, which made a sheet slower.)
 
 #![tactic(auto)]
 
 ghost use Rattle.std.specs.Prelude.{◌≡◌};
 ghost use Rattle.records.specs.Answer.{value};
-ghost use Rattle.records.specs.Told.{told_place};
+ghost use Rattle.records.specs.Told.{told};
 ghost use Rattle.description.specs.Format.{encode};
 ghost use Rattle.description.specs.Description.{shape_of};
 ghost use Rattle.description.specs.Sheet.{constant};
@@ -16,15 +18,14 @@ ghost use Rattle.emit.specs.Emit.{Emits};
 ghost use Rattle.sheet_constants.specs.Emitted.{constant_emitted};
 ghost use Rattle.typelib.specs.Header.{library};
 
-use constants::ConstAnswer;
 use records::answer;
-use records::answer::{Place, PlaceAnswer};
+use records::answer::{Place, Refusal};
 use records::types::ConstValue;
 use typelib::Numbers;
 
 mod bits;
 
-// What a constant holds: nothing, a number by its bits, or a place in the lent bytes.
+// What a constant holds: nothing, a number by its bits, or a place in the lent bytes. (As an `Option` of two cases it would be matched twice.)
 #[derive(Clone, Copy)]
 pub enum Content {
     Bare,
@@ -45,6 +46,7 @@ pub enum Shape {
 
 // The marks of the shapes of the codes 0 to 25, eight codes to a line: the bytes of the value, b for a
 // byte that is 0 or 1, t for a text. (A number never has sixteen bytes.)
+// (A rule of the project asks for a constant table of widths by VARTYPE code.)
 const MARKS: [u8; 26] = *b"\
 \x00\x00\x02\x04\x04\x08\x08\x08\
 t\x04\x04b\x04\x04\x10\x04\
@@ -52,7 +54,7 @@ t\x04\x04b\x04\x04\x10\x04\
 \x00\x04";
 
 // The mark of a code's shape. Beyond the table a file time has eight bytes, and a code without a case of
-// its own four.
+// its own four. (By index: `get` would give a reference in an `Option`, to be copied out of it: no plainer.)
 fn mark_of(code: u16) -> u8
     ensures { result ≡ mark_of (shape_of code) }
 {
@@ -65,7 +67,7 @@ fn mark_of(code: u16) -> u8
     4
 }
 
-// The shape of a code's value.
+// The shape of a code's value. (A mark is an entry of that table, one byte for each code.)
 pub fn shape_of(code: u16) -> Shape
     ensures { told_shape result ≡ shape_of code }
 {
@@ -79,80 +81,77 @@ pub fn shape_of(code: u16) -> Shape
     }
 }
 
-// What a constant holds: a signed number by its two's complement, a float by its bits, a truth as 0 or 1.
+// What a constant holds: a signed number by its two's complement, a float by its bits, a truth as 0 or 1. (Each type is turned in its own way.)
+#[tactic(auto, unfolding(describe::specs::Constants::content_of))]
 pub fn content_of(v: ConstValue) -> Content
     ensures { told_content result ≡ content_of v }
 {
     match v {
-        ConstValue::Empty => Content::Bare,
-        ConstValue::Null => Content::Bare,
-        ConstValue::I2(x) => Content::Digits(bits::unsigned16(x) as u64),
-        ConstValue::I4(x) => Content::Digits(util::unsigned32(x) as u64),
+        ConstValue::Empty | ConstValue::Null | ConstValue::NullBstr | ConstValue::Void =>
+            Content::Bare,
+        ConstValue::I1(x) => Content::Digits(x.cast_unsigned() as u64),
+        ConstValue::I2(x) => Content::Digits(x.cast_unsigned() as u64),
+        ConstValue::I4(x) => Content::Digits(x.cast_unsigned() as u64),
+        ConstValue::I8(x) => Content::Digits(x.cast_unsigned()),
+        ConstValue::Int(x) => Content::Digits(x.cast_unsigned() as u64),
+        ConstValue::Cy(x) => Content::Digits(x.cast_unsigned()),
+        ConstValue::Error(x) => Content::Digits(x.cast_unsigned() as u64),
+        ConstValue::Hresult(x) => Content::Digits(x.cast_unsigned() as u64),
+        ConstValue::Raw { vt: _, bits: x } => Content::Digits(x.cast_unsigned() as u64),
+        ConstValue::UI1(x) => Content::Digits(x as u64),
+        ConstValue::UI2(x) => Content::Digits(x as u64),
+        ConstValue::UI4(x) => Content::Digits(x as u64),
+        ConstValue::UI8(x) => Content::Digits(x),
+        ConstValue::UInt(x) => Content::Digits(x as u64),
+        ConstValue::Filetime(x) => Content::Digits(x),
         ConstValue::R4(x) => Content::Digits(bits::of_f32(x) as u64),
         ConstValue::R4Nan(n) => Content::Digits(n as u64),
         ConstValue::R8(x) => Content::Digits(bits::of_f64(x)),
         ConstValue::R8Nan(n) => Content::Digits(n),
-        ConstValue::Cy(x) => Content::Digits(bits::unsigned64(x)),
         ConstValue::Date(x) => Content::Digits(bits::of_f64(x)),
         ConstValue::DateNan(n) => Content::Digits(n),
+        ConstValue::Bool(b) => Content::Digits(u64::from(b)),
         ConstValue::Bstr(p) => Content::Span(p),
-        ConstValue::NullBstr => Content::Bare,
-        ConstValue::Error(x) => Content::Digits(util::unsigned32(x) as u64),
-        ConstValue::Bool(b) => Content::Digits(bits::of_bool(b)),
-        ConstValue::I1(x) => Content::Digits(bits::unsigned8(x) as u64),
-        ConstValue::UI1(x) => Content::Digits(x as u64),
-        ConstValue::UI2(x) => Content::Digits(x as u64),
-        ConstValue::UI4(x) => Content::Digits(x as u64),
-        ConstValue::I8(x) => Content::Digits(bits::unsigned64(x)),
-        ConstValue::UI8(x) => Content::Digits(x),
-        ConstValue::Int(x) => Content::Digits(util::unsigned32(x) as u64),
-        ConstValue::UInt(x) => Content::Digits(x as u64),
-        ConstValue::Void => Content::Bare,
-        ConstValue::Hresult(x) => Content::Digits(util::unsigned32(x) as u64),
         ConstValue::Decimal(p) => Content::Span(p),
-        ConstValue::Filetime(x) => Content::Digits(x),
-        ConstValue::Raw { vt: _, bits: x } => Content::Digits(util::unsigned32(x) as u64),
     }
 }
 
-// The number of a content, 0 where it is none.
-fn number_in(content: Content) -> u64
+// The number of a content, 0 where it is none. (It and the next serve the rows of constants, too.)
+pub fn number_in(content: Content) -> u64
     ensures { result ≡ number_in (told_content content) }
 {
     match content {
-        Content::Bare => 0,
         Content::Digits(n) => n,
-        Content::Span(_) => 0,
+        Content::Bare | Content::Span(_) => 0,
     }
 }
 
 // The place of a content, refusal 9 where it is none.
-fn place_in(content: Content) -> PlaceAnswer
-    ensures { told_place result ≡ place_in (told_content content) }
+pub fn place_in(content: Content) -> Result<Place, Refusal>
+    ensures { told result ≡ place_in (told_content content) }
 {
     match content {
-        Content::Bare => PlaceAnswer::Refused(9),
-        Content::Digits(_) => PlaceAnswer::Refused(9),
-        Content::Span(p) => PlaceAnswer::Value(p),
+        Content::Span(p) => Ok(p),
+        Content::Bare | Content::Digits(_) => Err(Refusal::NothingThere),
     }
 }
 
 // A text: byte 0 for null, or byte 1, the length and the bytes.
-fn put_text(s: &[u8], place: PlaceAnswer, out: &mut [u8], to: usize) -> usize
-    ensures { Emits (value (text_bytes s.now (told_place place))) to out.old result out.new }
+fn put_text(s: &[u8], place: Result<Place, Refusal>, out: &mut [u8], to: usize) -> usize
+    ensures { Emits (value (text_bytes s.now (told place))) to out.old result out.new }
 {
     match place {
-        PlaceAnswer::Value(p) => {
-            let bytes = answer::part(&*s, PlaceAnswer::Value(p));
+        Ok(p) => {
+            let bytes = answer::part(&*s, Ok(p));
             let t = emit::put_u8(out, to, 1);
             let t = emit::put_le(out, t, bytes.len() as u64, 4);
             emit::put_bytes(bytes, out, t)
         }
-        PlaceAnswer::Refused(_) => emit::put_u8(out, to, 0),
+        Err(_) => emit::put_u8(out, to, 0),
     }
 }
 
-// The value of a content by a shape.
+// The value of a content by a shape. (An arm for each: what it puts is one call.)
 fn put_value(s: &[u8], content: Content, shape: Shape, out: &mut [u8], to: usize) -> usize
     ensures { Emits (value (value_bytes s.now (told_content content) (told_shape shape))) to out.old result out.new }
 {
@@ -174,15 +173,16 @@ pub fn put_constant(s: &[u8], v: ConstValue, out: &mut [u8], to: usize) -> usize
     put_value(&*s, content_of(v), shape_of(code), out, t)
 }
 
-// The constant that a record's word is or names: byte 0 where there is none, or byte 1 and the constant.
+// The constant that a record's word is or names: byte 0 where there is none, or byte 1 and the constant. (As in `values` of
+// sheet_trees: a function of this and of those would take the reading and the emitter as closures, and be no plainer.)
 pub fn put_opt_constant(s: &[u8], lib: &Numbers, word: u32, out: &mut [u8], to: usize) -> usize
     ensures { Emits (constant_emitted s.now (library lib.now) word) to out.old result out.new }
 {
     match constants::const_at(lib, &*s, word) {
-        ConstAnswer::Value(v) => {
+        Ok(v) => {
             let t = emit::put_u8(out, to, 1);
             put_constant(&*s, v, out, t)
         }
-        ConstAnswer::Refused(_) => emit::put_u8(out, to, 0),
+        Err(_) => emit::put_u8(out, to, 0),
     }
 }

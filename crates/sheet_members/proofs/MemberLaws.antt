@@ -1,29 +1,24 @@
 -- A member's emissions, one behind the other, are those of its format. Assumes nothing.
+use Rattle.std.specs.Prelude.{Ok, Err, ◌≡◌, refl, Bool, true, false, List, [], ◌∷◌, ◌++◌, ℕ, ◌+◌, ◌*◌, ◌^◌, ◌/◌, ◌%◌, ◌≤◌, ◌<◌, ℤ, length}
+use Rattle.std.proofs.Common.{sym, ap, ◌∙◌, append_assoc, arith, eq-eqb, ne_eqb, of_z}
+use Rattle.std.specs.Int.{w32}
+use Rattle.std.specs.declared.result.Result.{Result}
 use Rattle.typelib.specs.Header.{type_count}
-use mathlib.Core.Path.{◌≡◌, refl, sym, ap, ◌∙◌}
-use mathlib.Core.Bool.{Bool, true, false}
-use mathlib.Core.List.{List, [], ◌∷◌, ◌++◌, append_assoc}
-use Prim.Native.Nat.{ℕ, ◌+◌, ◌*◌, ◌^◌, ◌/◌, ◌%◌, ◌≤◌, ◌<◌}
-use native.Mathlib.Omega.{arith}
-use lib.IntN.{ℤ}
-use lib.ListN.{length}
-use borrow.Author.Tests.{eq-eqb, ne_eqb}
-use mir.Syntax.{w32}
-use mir.Val.{of_z}
 use Rattle.util.specs.Read.{read, or_zero}
 use Rattle.records.specs.declared.answer.Place.{Place}
-use Rattle.records.specs.declared.answer.I32Answer.{I32Answer}
-use Rattle.records.specs.declared.answer.I32Answer.TheVariants as i32
+use Rattle.records.specs.declared.answer.Refusal.{Refusal}
 use Rattle.member_records.specs.declared.func.FuncRecord.{FuncRecord}
 use Rattle.records.specs.declared.typeinfo.TypeInfoEntry.{TypeInfoEntry}
 use Rattle.records.specs.Answer.{Answer, value, refused, map, bind}
 use Rattle.records.specs.Attributes.{default_value_offset}
 use Rattle.records.specs.Record.{signed32}
-use Rattle.records.specs.Told.{told_i32}
+use Rattle.records.specs.Told.{told}
 use Rattle.typelib.specs.declared.TypeLib.{TypeLib}
 use Rattle.cursors.specs.declared.iterators.FuncCursor.{FuncCursor}
 use Rattle.cursors.specs.declared.iterators.VarCursor.{VarCursor}
 use Rattle.cursors.specs.declared.iterators.ParamCursor.{ParamCursor}
+use Rattle.cursors.specs.Numbers.{Step, yielded, ended}
+use Rattle.cursors.specs.NumberLaws.{Turn}
 use Rattle.cursors.specs.Cursors.{funcs_of, func_step, vars_of, var_step, params_of, param_step}
 use Rattle.typelib.specs.TypeInfos.{func_memid, var_memid, func_name_offset, var_name_offset}
 use Rattle.description.specs.Format.{Format, encode, opt, list, le_bytes, length-le_bytes}
@@ -35,9 +30,9 @@ use Rattle.describe.specs.Constants.{constant_of}
 use Rattle.describe.specs.Members.{func_records, var_records, param_records, yields, name_of, name_by, memid_by, constant_by, default_of, parameter_with, parameter_of, parameters_of, function_with, function_of, functions_of, value_with, variable_with, variable_of, variables_of}
 use Rattle.emit.specs.Emit.{Put}
 use Rattle.emit.specs.Emit.{◌▸◌, Emitted, Overwritten, put, past}
-use Rattle.emit.specs.Laws.{le_bytes-join, patched}
+use Rattle.emit.specs.Laws.{Left, left-all, left_less, left-none, le_bytes-join, patched}
 use Rattle.sheet_members.proofs.WordLaws.{memid-same, name-same}
-use Rattle.sheet_members.specs.Lists.{lay_all, members-laid, members-none}
+use Rattle.sheet_members.specs.Lists.{lay_all, places, laid-turn, laid_none, counted-turn, counted_none, members-laid, members-none}
 use Rattle.sheet_members.specs.Words.{function_words, value_bytes}
 
 -- the words, as two numbers
@@ -64,13 +59,13 @@ counted {n} {m} h = patched (length-le_bytes 2 0 ∙ sym (length-le_bytes 2 m)) 
 module _ (s : List ℕ) (lib : TypeLib) where
   -- ---- constants
 
-  pub constant-by : {x : I32Answer} {z : ℤ} {n : ℕ} → x ≡ i32.Value z → n ≡ of_z w32 z
-      → value (encode (opt constant) (constant_of s lib n)) ≡ value (encode (opt constant) (constant_by s lib (told_i32 x)))
+  pub constant-by : {x : Result ℤ Refusal} {z : ℤ} {n : ℕ} → x ≡ Ok z → n ≡ of_z w32 z
+      → value (encode (opt constant) (constant_of s lib n)) ≡ value (encode (opt constant) (constant_by s lib (told x)))
   constant-by {x} {z} {n} e f = rw (e, f)
 
-  pub constant-missing : {x : I32Answer} {n : ℕ} → x ≡ i32.Refused n → value (0 ∷ []) ≡ value (encode (opt constant) (constant_by s lib (told_i32 x)))
+  pub constant-missing : {x : Result ℤ Refusal} {e : Refusal} → x ≡ Err e → value (0 ∷ []) ≡ value (encode (opt constant) (constant_by s lib (told x)))
   unfolding opt
-  constant-missing {x} {n} e = rw e
+  constant-missing {x} {e} h = rw h
 
   pub default-set : (flags : ℕ) {x a : Answer ℤ} → x ≡ a → flags / 0x20 % 2 ≡ 1
       → value (le_bytes 4 flags) ▸ value (encode (opt constant) (constant_by s lib x)) ≡ value (le_bytes 4 flags ++ encode (opt constant) (default_of s lib flags a))
@@ -217,3 +212,33 @@ module _ (s : List ℕ) (lib : TypeLib) where
     pub variables-none : {n : ℕ} → a ≡ refused n → value (le_bytes 2 0) ≡ map (encode (list u16 H)) (all (variables_of s lib ti))
     unfolding variables_of var_records
     variables-none {n} g = let q : vars_of s ti ≡ refused n = sym e ∙ g in rw q (members-none H (variable_of s lib ti))
+
+-- ---- a loop over a cursor that has yielded none
+
+module _ {C A : Type 0} (step : C → Step Place C) (left count : C → ℕ) (F : Format A) (f : ℕ → Place → Answer A) (c₀ : C) (t₀ : Put) (o₀ : List ℕ) where
+  -- it has come to c: what the cursor yielded is emitted and counted
+  pub record Come (t : Put) (o : List ℕ) (c : C) : Type 0 where
+    pub laid : Left (lay_all F (numbered f 0 (places step left c₀))) t₀ o₀ (lay_all F (numbered f (count c) (places step left c))) t o
+    pub sum : count c + left c ≡ left c₀
+    pub few : left c₀ < 2 ^ 64
+    pub counts : count c + length (places step left c) ≡ length (places step left c₀)
+
+  pub come-first : count c₀ ≡ 0 → left c₀ < 2 ^ 64 → Come t₀ o₀ c₀
+  come-first z h = record { laid = rw z left-all; sum = omega (arith, z); few = h; counts = omega (arith, z) }
+
+  module _ {t : Put} {o : List ℕ} {c : C} (h : Come t o c) where
+    pub come-next : {d : C} {p : Place} {k : ℕ} {t' : Put} {o' : List ℕ} → Turn left count c d k → yielded p k d ≡ step c
+        → Emitted (map (encode F) (f k p)) t o t' o' → Come t' o' d
+    come-next u e a =
+        record {
+          laid = left_less h.laid a (laid-turn step left count u e F f);
+          sum = u.sum ∙ h.sum;
+          few = h.few;
+          counts = counted-turn step left count u e _ h.counts;
+        }
+
+    pub come_last : {d : C} {m : ℕ} → ended m d ≡ step c → Emitted (lay_all F (numbered f 0 (places step left c₀))) t₀ o₀ t o
+    come_last e = left-none h.laid (laid_none step left F f _ e)
+
+    pub come-count : {d : C} {m : ℕ} → ended m d ≡ step c → count c ≡ length (places step left c₀)
+    come-count e = counted_none step left (count c) _ e h.counts

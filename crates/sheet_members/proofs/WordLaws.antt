@@ -1,15 +1,7 @@
 -- The words behind a type's block, looked up from where they start, are those of `typelib`. Assumes nothing.
-use mathlib.Core.Path.{◌≡◌, refl, sym, ap, ◌∙◌}
-use mathlib.Core.Bool.{Bool, true, false}
-use mathlib.Core.Option.{some, none}
-use mathlib.Core.List.{List}
-use Prim.Native.Nat.{ℕ, ◌+◌, ◌*◌, ◌-◌, ◌≤◌, ◌<◌, min}
-use native.Mathlib.Nat.{add-zero}
-use native.Mathlib.Omega.{arith}
-use lib.ListN.{length, take, drop}
-use lib.Dec.{leb}
-use borrow.Author.Tests.{le-leb, lt-leb, leb-true, leb-false}
-use Rattle.util.specs.Read.{read, or_zero, mapped, le, read_some, read_none}
+use Rattle.std.specs.Prelude.{None, ◌≡◌, refl, Bool, true, false, List, ℕ, ◌+◌, ◌*◌, ◌-◌, ◌≤◌, ◌<◌, min, length, take, drop, leb, ℤ}
+use Rattle.std.proofs.Common.{sym, ap, ◌∙◌, add-zero, arith, leb-true, leb-false}
+use Rattle.util.specs.Read.{read, or_zero, le, read_some, read_none}
 use Rattle.records.specs.declared.answer.Place.{Place}
 use Rattle.records.specs.declared.typeinfo.TypeInfoEntry.{TypeInfoEntry}
 use Rattle.records.specs.Answer.{Answer, value, refused, map, bind, or_nine}
@@ -19,9 +11,6 @@ use Rattle.typelib.specs.TypeInfos.{of_type_info, counts_of, block_at, aux_word,
 use Rattle.records.specs.Record.{signed32}
 use Rattle.describe.specs.Values.{found}
 use Rattle.sheet_members.specs.Words.{block_end, words_at, row_at, member_row, FuncRows}
-use mir.Syntax.{w32}
-use mir.Val.{to_z, of_z}
-use lib.IntN.{ℤ}
 use Rattle.typelib.specs.declared.TypeLib.{TypeLib}
 use Rattle.describe.specs.Members.{memid_by, name_by}
 
@@ -35,20 +24,7 @@ module _ (s : List ℕ) where
   pub word-beyond : (at : ℕ) → length s < at + 4 → refused 9 ≡ or_nine (read 4 s at)
   word-beyond at h = ap or_nine (read_none 4 s at h)
 
-  module _ (memoffset : ℕ) where
-    pub block-negative : 0x80000000 ≤ memoffset → refused 9 ≡ map block_end (block_at s memoffset)
-    unfolding block_at
-    block-negative h = rw (le-leb 0x80000000 memoffset h)
-
-    pub block_none : memoffset < 0x80000000 → none ≡ read 4 s memoffset → refused 9 ≡ map block_end (block_at s memoffset)
-    unfolding block_at
-    block_none h e = rw (lt-leb 0x80000000 memoffset h, ← e)
-
-    pub block_read : (size : ℕ) → memoffset < 0x80000000 → some size ≡ read 4 s memoffset → value (memoffset + 4 + size) ≡ map block_end (block_at s memoffset)
-    unfolding block_at
-    block_read size h e = rw (lt-leb 0x80000000 memoffset h, ← e)
-
-  none-behind : (i : ℕ) → found (or_nine (read 4 s (length s + 4 * i))) ≡ none
+  none-behind : (i : ℕ) → found (or_nine (read 4 s (length s + 4 * i))) ≡ None
   none-behind i = ap found (sym (word-beyond (length s + 4 * i) (omega arith)))
 
   -- a word of a row is the one so far behind where the row would start: one that is missing there is missing here too
@@ -106,7 +82,7 @@ module _ (s : List ℕ) where
 
 -- a word that is the same where it is there, or missing too, is so as a signed one
 pub found-signed : (x y : Answer ℕ) → found x ≡ found y → found (signed32 x) ≡ found (signed32 y)
-found-signed (value a) (value b) e = ap (mapped (to_z w32)) e
+found-signed (value a) (value b) e = let q : a ≡ b = cc in rw q
 found-signed (value a) (refused n) e = absurd (let z : ◌≡◌ {A = ℕ} 0 1 = cc in omega arith)
 found-signed (refused n) (value b) e = absurd (let z : ◌≡◌ {A = ℕ} 0 1 = cc in omega arith)
 found-signed (refused n) (refused m) e = refl
@@ -114,7 +90,7 @@ found-signed (refused n) (refused m) e = refl
 -- and a member's identifier and name are then the same
 pub memid-same : (x y : Answer ℤ) → found x ≡ found y → memid_by x ≡ memid_by y
 unfolding memid_by
-memid-same (value a) (value b) e = ap (mapped (of_z w32)) e
+memid-same (value a) (value b) e = let q : a ≡ b = cc in rw q
 memid-same (value a) (refused n) e = absurd (let z : ◌≡◌ {A = ℕ} 0 1 = cc in omega arith)
 memid-same (refused n) (value b) e = absurd (let z : ◌≡◌ {A = ℕ} 0 1 = cc in omega arith)
 memid-same (refused n) (refused m) e = refl

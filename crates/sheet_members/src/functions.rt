@@ -1,8 +1,10 @@
 // Functions.
+// (What an emitter takes stands apart: a struct of more than two numbers is handed on by way of memory, which made sheets slower.)
+// (`Near` is asked of each: it is a fact between the bytes, the library and the names, which stand apart.)
 ghost use Rattle.std.specs.Prelude.{◌≡◌};
 ghost use Rattle.records.specs.Answer.{value};
 ghost use Rattle.records.specs.Record.{signed32};
-ghost use Rattle.records.specs.Told.{told_i32};
+ghost use Rattle.records.specs.Told.{told};
 ghost use Rattle.typelib.specs.TypeInfos.{func_memid, func_name_offset};
 ghost use Rattle.describe.specs.Values.{found};
 ghost use Rattle.sheet_trees.specs.Names.{Near};
@@ -13,20 +15,21 @@ ghost use Rattle.typelib.specs.Header.{library};
 
 use crate::{Listed, parameters, words};
 use cursors::iterators;
-use cursors::iterators::{FuncCursor, FuncStep, FuncsAnswer};
+use cursors::iterators::{FuncCursor, Step};
 use member_records::func::FuncRecord;
-use records::answer::I32Answer;
+use records::answer::Refusal;
 use records::typeinfo::TypeInfoEntry;
 use sheet_trees::names::Names;
 use sheet_trees::{names, trees, values};
 use typelib::Numbers;
 
-// The functions of a type: how many are yielded, and each.
+// The functions of a type: how many are yielded, and each. (Not one with `put_variables`: nothing is looked up for a type without functions,
+// and each loop has a contract of its own.)
 pub fn put_functions(s: &[u8], lib: &Numbers, ti: TypeInfoEntry, out: &mut [u8], to: usize) -> usize
     ensures { Emits (functions_emitted s.now (library lib.now) ti) to out.old result out.new }
 {
     match iterators::funcs(&*s, ti) {
-        FuncsAnswer::Value(cursor) => {
+        Ok(cursor) => {
             // the count is known once they are emitted
             let t = emit::put_u16(out, to, 0);
             // (where there are none, nothing need be looked up for them)
@@ -37,12 +40,14 @@ pub fn put_functions(s: &[u8], lib: &Numbers, ti: TypeInfoEntry, out: &mut [u8],
             emit::overwrite(out, to, listed.count as u64, 2);
             listed.to
         }
-        FuncsAnswer::Refused(_) => emit::put_u16(out, to, 0),
+        Err(_) => emit::put_u16(out, to, 0),
     }
 }
 
 // Each function that the cursor yields. (A refusal ends it at once: nothing is emitted behind one, and
-// the count is not theirs.)
+// the count is not theirs. Why the loop over variables is another one is said there.)
+// (No `for` over the records: it would go on behind a refusal.)
+// (That it has yielded none is asked here and is no fact of its type: a cursor that has stepped has yielded some.)
 fn put_each(
     s: &[u8],
     lib: &Numbers,
@@ -58,24 +63,19 @@ fn put_each(
     let names = names::names_of(&*s, lib);
     let mut t = to;
     let mut c = cursor;
-    loop {
-        if emit::PAST < t {
-            return Listed {
-                to: t,
-                count: c.yielded as usize,
-            };
-        }
-        let FuncStep::Record(func, number, next) = c.step(&*s) else {
-            return Listed {
-                to: t,
-                count: c.yielded as usize,
-            };
+    while t <= emit::PAST {
+        let Step::Record(func, number, next) = c.step(&*s) else {
+            break;
         };
         let i = number as usize;
         let memid = words::word(&*s, rows.memids, i);
         let name_offset = words::word(&*s, rows.names, i);
         t = put_function(&*s, lib, names, ti, i, memid, name_offset, func, out, t);
         c = next;
+    }
+    Listed {
+        to: t,
+        count: c.yielded as usize,
     }
 }
 
@@ -86,15 +86,15 @@ fn put_function(
     names: Names,
     ti: TypeInfoEntry,
     index: usize,
-    memid: I32Answer,
-    name_offset: I32Answer,
+    memid: Result<i32, Refusal>,
+    name_offset: Result<i32, Refusal>,
     func: FuncRecord,
     out: &mut [u8],
     to: usize,
 ) -> usize
     requires near { Near s.now (library lib.now) names }
-    requires memid_value { found (told_i32 memid) ≡ found (signed32 (func_memid s.now ti index)) }
-    requires name_offset_value { found (told_i32 name_offset) ≡ found (signed32 (func_name_offset s.now ti index)) }
+    requires memid_value { found (told memid) ≡ found (signed32 (func_memid s.now ti index)) }
+    requires name_offset_value { found (told name_offset) ≡ found (signed32 (func_name_offset s.now ti index)) }
     ensures { Emits (function_emitted s.now (library lib.now) ti index func) to out.old result out.new }
 {
     let t = values::put_opt_memid(memid, out, to);
@@ -105,7 +105,7 @@ fn put_function(
     parameters::put_parameters(&*s, lib, names, func, out, t)
 }
 
-// The words of the record at `at` from 0x08 on, as two numbers.
+// The words of the record at `at` from 0x08 on, as two numbers. (So several fields are stored by one move, for speed.)
 fn put_words(s: &[u8], at: usize, out: &mut [u8], to: usize) -> usize
     ensures { Emits (value (function_words s.now at)) to out.old result out.new }
 {

@@ -1,5 +1,7 @@
 // Parameters.
-ghost use Rattle.records.specs.Told.{told_i32};
+// (What an emitter takes stands apart: a struct of more than two numbers is handed on by way of memory, which made sheets slower.)
+// (`Near` is asked of each: it is a fact between the bytes, the library and the names, which stand apart.)
+ghost use Rattle.records.specs.Told.{told};
 ghost use Rattle.sheet_trees.specs.Names.{Near};
 ghost use Rattle.sheet_members.specs.Room.{Room};
 ghost use Rattle.emit.specs.Emit.{Emits};
@@ -7,9 +9,9 @@ ghost use Rattle.sheet_members.specs.Emitted.{constant_by_emitted, parameter_emi
 ghost use Rattle.typelib.specs.Header.{library};
 
 use cursors::iterators;
-use cursors::iterators::{ParamCursor, ParamsAnswer};
+use cursors::iterators::ParamCursor;
 use member_records::func::FuncRecord;
-use records::answer::I32Answer;
+use records::answer::Refusal;
 use sheet_trees::names::Names;
 use sheet_trees::{trees, values};
 use typelib::Numbers;
@@ -27,11 +29,11 @@ pub(crate) fn put_parameters(
     ensures { Emits (parameters_emitted s.now (library lib.now) func) to out.old result out.new }
 {
     match iterators::params(&*s, func) {
-        ParamsAnswer::Value(cursor) => {
+        Ok(cursor) => {
             let t = emit::put_le(out, to, cursor.remaining as u64, 2);
             put_each(&*s, lib, names, func, cursor, out, t)
         }
-        ParamsAnswer::Refused(_) => emit::put_u16(out, to, 0),
+        Err(_) => emit::put_u16(out, to, 0),
     }
 }
 
@@ -50,15 +52,14 @@ fn put_each(
     ensures { Emits (parameters_from s.now (library lib.now) func cursor) to out.old result out.new }
 {
     let mut t = to;
-    let mut i: usize = 0;
-    while i < cursor.remaining {
+    for i in 0..cursor.remaining {
         t = put_parameter(&*s, lib, names, func, i, cursor.pos + 12 * i, out, t);
-        i += 1;
     }
     t
 }
 
 // Parameter `index` of `func`, at `at`. It has a default value where its flags have 0x20.
+// (The flag is tested as its definition `flag_set` tests it: `util::bits(flags, 5, 1) == 1` is no plainer.)
 fn put_parameter(
     s: &[u8],
     lib: &Numbers,
@@ -85,18 +86,19 @@ fn put_parameter(
     }
 }
 
-// The constant that an offset names: missing where the offset is.
+// The constant that an offset names: missing where the offset is. (Not one with the emitters of names: they share the test for a missing
+// offset alone, and would take the rest as a closure with its contract.)
 pub fn put_constant_by(
     s: &[u8],
     lib: &Numbers,
-    offset: I32Answer,
+    offset: Result<i32, Refusal>,
     out: &mut [u8],
     to: usize,
 ) -> usize
-    ensures { Emits (constant_by_emitted s.now (library lib.now) (told_i32 offset)) to out.old result out.new }
+    ensures { Emits (constant_by_emitted s.now (library lib.now) (told offset)) to out.old result out.new }
 {
-    let I32Answer::Value(x) = offset else {
+    let Ok(x) = offset else {
         return emit::put_u8(out, to, 0);
     };
-    sheet_constants::put_opt_constant(&*s, lib, util::unsigned32(x), out, to)
+    sheet_constants::put_opt_constant(&*s, lib, x.cast_unsigned(), out, to)
 }

@@ -1,8 +1,9 @@
 -- The figures of what a type is based on. Assumes nothing.
-use mathlib.Core.Path.{◌≡◌, sym, ap, ◌∙◌}
+use mathlib.Core.Path.{◌≡◌, refl, sym, ap, ◌∙◌}
 use mathlib.Core.List.{List, ◌++◌}
 use mathlib.Core.List as lists
-use Prim.Native.Nat.{ℕ, ◌+◌}
+use Prim.Native.Nat.{ℕ, zero, suc, ◌+◌, ◌≤◌, ◌<◌}
+use native.Mathlib.Omega.{arith}
 use lib.ListN.{length, length-map}
 use Rattle.util.specs.Read.{read, or_zero}
 use Rattle.records.specs.declared.typeinfo.TypeInfoEntry.{TypeInfoEntry}
@@ -58,9 +59,17 @@ module _ (s : List ℕ) (lib : TypeLib) where
     unfolding base_counted
     shaped k h e = ap shape (sym e)
 
-    pub base-parent : {x : ℕ} (k : ℕ) → x ≡ or_zero (read 4 s (ti.at + 84)) → base_shape_of k ≡ parent → reference_counted s lib x ≡ base_counted s lib ti k
+    parent-shape : (k : ℕ) → 3 ≤ k → k < 5 → base_shape_of k ≡ parent
+    parent-shape zero a b = absurd (omega (arith, a))
+    parent-shape (suc zero) a b = absurd (omega (arith, a))
+    parent-shape (suc (suc zero)) a b = absurd (omega (arith, a))
+    parent-shape (suc (suc (suc zero))) a b = refl
+    parent-shape (suc (suc (suc (suc zero)))) a b = refl
+    parent-shape (suc (suc (suc (suc (suc k))))) a b = absurd (omega (arith, b))
+
+    pub base-parent : {x : ℕ} (k : ℕ) → x ≡ or_zero (read 4 s (ti.at + 84)) → 3 ≤ k → k < 5 → reference_counted s lib x ≡ base_counted s lib ti k
     unfolding reference_counted base_references
-    base-parent {x} k e h = rw e (shaped k parent h)
+    base-parent {x} k e g h = rw e (shaped k parent (parent-shape k g h))
 
     pub base-chain : (k : ℕ) → k ≡ 5 → impl_types_counted s lib ti ≡ base_counted s lib ti k
     unfolding impl_types_counted base_references

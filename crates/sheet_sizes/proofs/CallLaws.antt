@@ -5,19 +5,22 @@ use Prim.Native.Nat.{ℕ, suc, ◌-◌, ◌%◌, ◌≤◌, ◌<◌, min}
 use native.Mathlib.Omega.{arith}
 use borrow.Author.Tests.{lt-ltb, le-ltb}
 use Rattle.records.specs.Answer.{Answer, value, refused, map}
-use Rattle.typelib.specs.declared.Parsed.{Parsed}
-use Rattle.typelib.specs.Header.{parse_of, parsed, type_count}
+use Rattle.records.specs.declared.answer.Refusal.{Refusal}
+use Rattle.records.specs.Told.{refusal_number}
+use Rattle.typelib.specs.declared.TypeLib.{TypeLib}
+use Rattle.typelib.specs.Header.{parse_of, type_count}
 use Rattle.description.specs.Description.{Library}
 use Rattle.description.specs.Figures.{Figures, counted_in, figures_in}
 use Rattle.description.specs.Sheet.{edition-one}
 use Rattle.describe.specs.Describe.{header_of, types_of, describe_as, describe}
 use Rattle.describe.specs.Figures.{figures_of}
-use Rattle.describe.specs.ParsedLaws.{parse-refused, parse-read}
-use Rattle.emit.specs.Emit.{past, advance}
+use Rattle.describe.specs.Refusals.{describe-sound}
+use Rattle.emit.specs.Emit.{Refused, past, put, advance}
 use Rattle.emit.specs.Laws.{put-at, put_refused}
 use Rattle.sheet_sizes.specs.declared.Count.{Count}
 use Rattle.sheet_sizes.specs.Counts.{figures, Counts, So, Stopped, counted, counts, of, CountingAll}
 use Rattle.sheet_sizes.specs.Counted.{library_counted}
+use Rattle.sheet_sizes.proofs.RefusalLaws.{same-number}
 
 -- ---- what was counted, as it is given
 
@@ -65,36 +68,44 @@ module _ (c : Count) where
       }
   given_by h (refused n) e = let q : So (figures c.to c.functions c.parameters c.variables c.references) ≡ Stopped n = sym (place h) ∙ e in absurd (let z : ◌≡◌ {A = ℕ} 0 1 = cc in omega arith)
 
-  refused-by : past < c.to → (y : Answer Library) → of c ≡ counted (So (figures 0 0 0 0 0)) (map (counted_in edition-one) y) → refused ((c.to - suc past) % 256) ≡ map (figures_in edition-one) y
-  refused-by h (value d) e = absurd (let q = sym (stopped h) ∙ e in let z : ◌≡◌ {A = ℕ} 0 1 = cc in omega arith)
-  refused-by h (refused n) e = let q : Stopped ((c.to - suc past) % 256) ≡ Stopped n = sym (stopped h) ∙ e in let z : (c.to - suc past) % 256 ≡ n = cc in ap refused z
+  refused-by : (s : List ℕ) {r : Refusal} → past < c.to → ((e : Refusal) → put c.to ≡ Refused (refusal_number e) → r ≡ e)
+      → (y : Answer Library) → describe edition-one s ≡ y → of c ≡ counted (So (figures 0 0 0 0 0)) (map (counted_in edition-one) y)
+      → refused (refusal_number r) ≡ map (figures_in edition-one) y
+  refused-by s h f (value d) g e = absurd (let q = sym (stopped h) ∙ e in let z : ◌≡◌ {A = ℕ} 0 1 = cc in omega arith)
+  refused-by s h f (refused n) g e =
+      let q : Stopped ((c.to - suc past) % 256) ≡ Stopped n = sym (stopped h) ∙ e in
+      let z : (c.to - suc past) % 256 ≡ n = cc in
+      ap refused (same-number c.to (describe-sound edition-one s) g (put_refused c.to h ∙ ap Refused z) f)
 
 -- ---- the call
 
-module _ (s : List ℕ) (p : Parsed) (e : p ≡ parsed (parse_of s)) where
-  pub figures-refused : (p.number ≡ 0 → ⊥) → refused p.number ≡ figures_of edition-one s
+module _ (s : List ℕ) where
+  pub figures-refused : {n : ℕ} → refused n ≡ parse_of s → refused n ≡ figures_of edition-one s
   unfolding figures_of describe
-  figures-refused h = rw (parse-refused s p e h)
+  figures-refused e = rw (← e)
 
-  module _ (zero : p.number ≡ 0) where
-    pub figures-many : 65535 < type_count p.lib → refused 13 ≡ figures_of edition-one s
+  module _ {lib : TypeLib} (e : value lib ≡ parse_of s) where
+    pub figures-many : 65535 < type_count lib → refused 13 ≡ figures_of edition-one s
     unfolding figures_of describe describe_as
-    figures-many h = rw (parse-read s p e zero, lt-ltb 65535 (type_count p.lib) h)
+    figures-many h = rw (← e, lt-ltb 65535 (type_count lib) h)
 
-    module _ (few : type_count p.lib ≤ 65535) {c : Count} (k : CountingAll (library_counted s p.lib) c) where
+    module _ (few : type_count lib ≤ 65535) {c : Count} (k : CountingAll (library_counted s lib) c) where
       abbrev library-of : Answer Library
-      library-of = map (λ types. record { header = header_of s p.lib; types = types }) (types_of s p.lib)
+      library-of = map (λ types. record { header = header_of s lib; types = types }) (types_of s lib)
 
-      described : map (figures_in edition-one) library-of ≡ figures_of edition-one s
-      unfolding figures_of describe describe_as
-      described = rw (parse-read s p e zero, le-ltb 65535 (type_count p.lib) few)
+      described : describe edition-one s ≡ library-of
+      unfolding describe describe_as
+      described = rw (← e, le-ltb 65535 (type_count lib) few)
 
       from_start : of c ≡ counted (So (figures 0 0 0 0 0)) (map (counted_in edition-one) library-of)
       unfolding library_counted
       from_start = k.is ∙ ap (λ (t : Counts). counted t (map (counted_in edition-one) library-of)) (start c)
 
-      pub figures-stopped : past < c.to → refused ((c.to - past - 1) % 256) ≡ figures_of edition-one s
-      figures-stopped h = let m : c.to - past - 1 ≡ c.to - suc past = omega arith in rw m (refused-by c h library-of from_start ∙ described)
+      pub figures-stopped : {r : Refusal} → past < c.to → ((e : Refusal) → put c.to ≡ Refused (refusal_number e) → r ≡ e)
+          → refused (refusal_number r) ≡ figures_of edition-one s
+      unfolding figures_of
+      figures-stopped h f = refused-by c s h f library-of described from_start ∙ ap (map (figures_in edition-one)) (sym described)
 
       pub figures-given : c.to ≤ past → Given c (figures_of edition-one s)
-      figures-given h = rw described at (given_by c h library-of from_start)
+      unfolding figures_of
+      figures-given h = rw (← described) at (given_by c h library-of from_start)

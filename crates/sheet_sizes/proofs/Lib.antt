@@ -6,4 +6,5 @@ mod MemberLaws
 mod ChainLaws
 mod BaseLaws
 mod TypeLaws
+pub mod RefusalLaws
 mod CallLaws

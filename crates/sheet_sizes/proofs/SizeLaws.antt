@@ -1,34 +1,33 @@
 -- How many bytes the parts have that the sizes count. Assumes nothing.
 use mathlib.Core.Path.{◌≡◌, refl, sym, ap, ap₂, ◌∙◌}
 use mathlib.Core.List.{List, [], ◌∷◌, ◌++◌, append_assoc}
-use Prim.Native.Nat.{ℕ, ◌+◌, ◌*◌, ◌/◌, ◌%◌, ◌^◌, ◌≤◌}
+use mir.Syntax.{w32}
+use mir.Val.{of_z}
+use lib.IntN.{ℤ}
+use Prim.Native.Nat.{ℕ, suc, ◌+◌, ◌*◌, ◌/◌, ◌%◌, ◌^◌, ◌≤◌}
 use native.Mathlib.Omega.{arith}
 use lib.ListN.{length, length-append}
 use Rattle.util.specs.Read.{le, read, or_zero}
 use Rattle.records.specs.declared.answer.Place.{Place}
-use Rattle.records.specs.declared.answer.PlaceAnswer.{PlaceAnswer}
-use Rattle.records.specs.declared.answer.PlaceAnswer.TheVariants as place
-use Rattle.records.specs.Answer.{value}
+use Rattle.records.specs.Answer.{Answer, value, refused}
 use Rattle.records.specs.Record.{part_of}
-use Rattle.records.specs.Told.{told_place}
 use Rattle.typelib.specs.declared.TypeLib.{TypeLib}
 use Rattle.typelib.specs.Names.{guid_place, name_bytes}
 use Rattle.typelib.specs.Tables.{table_place}
 use Rattle.typelib.specs.TableLaws.{found as found-place}
 use Rattle.description.specs.Format.{encode, opt, le_bytes, length-le_bytes}
 use Rattle.description.specs.Description.{Bytes}
-use Rattle.description.specs.Sheet.{guid, name, header}
+use Rattle.description.specs.Sheet.{u32, guid, name, header}
 use Rattle.describe.specs.Describe.{header_of}
 use Rattle.describe.specs.Answers.{IfValue, told, anything, answers-bind, answers-map, answers-value}
 use Rattle.describe.specs.FitValues.{part_length}
 use Rattle.describe.specs.References.{guid_of}
-use Rattle.describe.specs.Members.{name_of}
-use Rattle.emit.specs.Emit.{Put, put, advance, Emitted, counted_part}
+use Rattle.describe.specs.Members.{name_of, name_by, memid_by}
+use Rattle.emit.specs.Emit.{Put, put, advance, Emitted}
 use Rattle.emit.specs.Laws.{known, join}
 use Rattle.sheet_members.specs.Words.{function_words}
 use Rattle.sheet_bases.specs.Types.{head_bytes, names_bytes}
 use Rattle.sheet_bases.proofs.TypeLaws.{names-is}
-use Rattle.sheet_trees.proofs.PartLaws.{part-some, part_none, counted-some, guid-is, name-is}
 use Rattle.sheet_sizes.specs.Counts.{Measured}
 use Rattle.sheet_sizes.specs.Counted.{header_bytes}
 use Rattle.sheet_sizes.proofs.CountLaws.{ahead-measured}
@@ -57,33 +56,39 @@ module _ (s : List ℕ) (lib : TypeLib) where
       (told (table_place s lib 7 offset (12 + n)) (λ p e. found-place s lib 7 offset (12 + n) p e))
       (λ p h. omega (arith, h.inside)))
 
-  pub name-room : (offset : ℕ) {a : PlaceAnswer} {p : Place} → told_place a ≡ name_bytes s lib offset → a ≡ place.Value p → p.at + p.len ≤ length s
-  name-room offset e f = answers-value (name-inside offset) (sym e ∙ ap told_place f)
+  pub name-room : (offset : ℕ) {p : Place} → value p ≡ name_bytes s lib offset → p.at + p.len ≤ length s
+  name-room offset e = answers-value (name-inside offset) (sym e)
 
-  module _ (offset to r : ℕ) {a : PlaceAnswer} where
-    pub guid-there : {p : Place} → told_place a ≡ guid_place s lib offset → a ≡ place.Value p
-        → r ≡ advance to 17 → Measured (value (encode (opt guid) (guid_of s lib offset))) to r
-    guid-there {p} e f m =
-        let h = found-place s lib 5 offset 16 p (sym (ap told_place f) ∙ e) in
-        known (part-some s f refl ∙ guid-is s lib offset (told_place a) e)
-        (ahead-measured _ m (1 ∷ part_of s (value p)) (omega (arith, part_length s p (omega (arith, h.inside, h.whole)), h.whole)))
+  module _ (offset to r : ℕ) where
+    pub guid-there : {p : Place} → value p ≡ guid_place s lib offset → r ≡ advance to 17 → Measured (value (encode (opt guid) (guid_of s lib offset))) to r
+    unfolding guid_of opt guid
+    guid-there {p} e m =
+        let h = found-place s lib 5 offset 16 p e in
+        rw (← e) (ahead-measured _ m (1 ∷ part_of s (value p)) (omega (arith, part_length s p (omega (arith, h.inside, h.whole)), h.whole)))
 
-    pub guid-missing : {n : ℕ} → told_place a ≡ guid_place s lib offset → a ≡ place.Refused n
-        → r ≡ advance to 1 → Measured (value (encode (opt guid) (guid_of s lib offset))) to r
-    guid-missing e f m = known (part_none s 0 f ∙ guid-is s lib offset (told_place a) e) (ahead-measured _ m _ refl)
+    pub guid-missing : {n : ℕ} → refused n ≡ guid_place s lib offset → r ≡ advance to 1 → Measured (value (encode (opt guid) (guid_of s lib offset))) to r
+    unfolding guid_of opt
+    guid-missing {n} e m = rw (← e) (ahead-measured _ m (0 ∷ []) refl)
 
-    pub name-there : {p : Place} → told_place a ≡ name_bytes s lib offset → a ≡ place.Value p
-        → r ≡ advance to (2 + p.len) → Measured (value (encode (opt name) (name_of s lib offset))) to r
-    unfolding counted_part
-    name-there {p} e f m =
+    pub name-there : {p : Place} → value p ≡ name_bytes s lib offset → r ≡ advance to (2 + p.len) → Measured (value (encode (opt name) (name_of s lib offset))) to r
+    unfolding name_of opt name
+    name-there {p} e m =
         let bs : Bytes = part_of s (value p) in
-        let n : ℕ = 1 + 256 * (length bs % 256) in
-        known (counted-some s f ∙ name-is s lib offset (told_place a) e)
-        (ahead-measured _ m (le_bytes 2 n ++ bs) (omega (arith, length-append (le_bytes 2 n) bs, length-le_bytes 2 n, part_length s p (name-room offset e f))))
+        let k : length (le_bytes 1 (length bs) ++ bs) ≡ 1 + length bs = longer (le_bytes 1 (length bs)) bs (length-le_bytes 1 _) refl in
+        rw (← e) (ahead-measured _ m (1 ∷ (le_bytes 1 (length bs) ++ bs)) (omega (arith, k, part_length s p (name-room offset e))))
 
-    pub name-missing : {n : ℕ} → told_place a ≡ name_bytes s lib offset → a ≡ place.Refused n
-        → r ≡ advance to 1 → Measured (value (encode (opt name) (name_of s lib offset))) to r
-    name-missing e f m = known (part_none s 1 f ∙ name-is s lib offset (told_place a) e) (ahead-measured _ m _ refl)
+    pub name-missing : {n : ℕ} → refused n ≡ name_bytes s lib offset → r ≡ advance to 1 → Measured (value (encode (opt name) (name_of s lib offset))) to r
+    unfolding name_of opt
+    name-missing {n} e m = rw (← e) (ahead-measured _ m (0 ∷ []) refl)
+
+  module _ {o : Answer ℤ} (to r : ℕ) where
+    pub name-by-there : {z : ℤ} → o ≡ value z → Measured (value (encode (opt name) (name_of s lib (of_z w32 z)))) to r → Measured (value (encode (opt name) (name_by s lib o))) to r
+    unfolding name_of name_by
+    name-by-there {z} e m = rw e m
+
+    pub name-by-missing : {n : ℕ} → o ≡ refused n → r ≡ advance to 1 → Measured (value (encode (opt name) (name_by s lib o))) to r
+    unfolding name_by opt
+    name-by-missing {n} e m = rw e (ahead-measured _ m (0 ∷ []) refl)
 
   -- how many functions and variables are declared is four bytes behind the GUID and the name
   pub names-counted : (at w k : ℕ) {g n : ℕ} {t u : Put} → g ≡ or_zero (read 4 s (at + 44)) → n ≡ or_zero (read 4 s (at + 52))
@@ -104,3 +109,12 @@ module _ (s : List ℕ) (lib : TypeLib) where
       let low : Bytes = le_bytes 4 (or_zero (read 4 s (0 + 12))) in
       let high : Bytes = le_bytes 4 (or_zero (read 4 s (0 + 24))) in
       rw (e, f) at (known (ap value (append_assoc low high _)) (join (ahead-measured _ m (low ++ high) (longer low high (length-le_bytes 4 _) (length-le_bytes 4 _))) (join a b)))
+
+module _ {m : Answer ℤ} (to r : ℕ) where
+  pub memid-there : {z : ℤ} → m ≡ value z → r ≡ advance to 5 → Measured (value (encode (opt u32) (memid_by m))) to r
+  unfolding memid_by opt
+  memid-there {z} e f = rw e (ahead-measured _ f (1 ∷ le_bytes 4 (of_z w32 z)) (ap suc (length-le_bytes 4 _)))
+
+  pub memid-missing : {n : ℕ} → m ≡ refused n → r ≡ advance to 1 → Measured (value (encode (opt u32) (memid_by m))) to r
+  unfolding memid_by opt
+  memid-missing {n} e f = rw e (ahead-measured _ f (0 ∷ []) refl)

@@ -1,6 +1,6 @@
 -- A tree's figures are those of its descriptions, one behind the other. Assumes nothing.
+use Rattle.std.specs.Prelude.{Option, Some, None}
 use mathlib.Core.Path.{◌≡◌, refl, sym, ap, ap₂, ◌∙◌}
-use mathlib.Core.Option.{Option, some, none}
 use mathlib.Core.List.{List, [], ◌∷◌}
 use Prim.Native.Nat.{ℕ, zero, suc, ◌+◌, ◌*◌, ◌-◌, ◌/◌, ◌%◌, ◌^◌, ◌≤◌, ◌<◌}
 use native.Mathlib.Omega.{arith}
@@ -18,7 +18,7 @@ use Rattle.typelib.specs.DescriptorLaws.{field-base}
 use Rattle.records.specs.declared.answer.Place.{Place}
 use Rattle.util.specs.Read.{cond-elim}
 use lib.Dec.{eqb}
-use borrow.Author.Tests.{ne_eqb}
+use borrow.Author.Tests.{ne_eqb, eqb-false}
 use Rattle.typelib.specs.declared.TypeLib.{TypeLib}
 use Rattle.typelib.specs.Header.{type_count}
 use Rattle.typelib.specs.Tables.{lent}
@@ -33,10 +33,9 @@ use Rattle.describe.specs.Trees.{dimensions_of, tree_from, nested_of, tree_of}
 use Rattle.sheet_trees.proofs.TreeLaws.{array-tree}
 use Rattle.emit.specs.Emit.{Put, At, past, put, advance, moved}
 use Rattle.emit.specs.Laws.{advance-none, put-at, put_refused, place_is}
-use Rattle.sheet_trees.specs.declared.trees.Inner.{Inner}
 use Rattle.sheet_trees.specs.declared.trees.Level.{Level}
 use Rattle.sheet_trees.specs.Emitted.{user_bytes}
-use Rattle.sheet_trees.specs.Parts.{array_bytes, head_bytes, inner_of, told_inner, Levelled}
+use Rattle.sheet_trees.specs.Parts.{array_bytes, head_bytes, inner_of, Levelled}
 use Rattle.sheet_sizes.specs.Counts.{Measured, figures, ◌⊕◌, ends, Ending}
 use Rattle.sheet_sizes.proofs.CountLaws.{ahead-measured, known-e, then-e, bytes-e, references-e, refusing-e}
 use Rattle.sheet_sizes.specs.Counts.{none as nil}
@@ -59,8 +58,8 @@ module _ (s : List ℕ) (lib : TypeLib) where
   own a = figures (length (head_bytes s lib a)) 0 0 0 (own_references a)
 
   abbrev rest : ℕ → (ℕ → Answer Tree) → Option ℕ → Answer Figures
-  rest k below none = value nil
-  rest k below (some field) = map (nested_figures N k) (below field)
+  rest k below None = value nil
+  rest k below (Some field) = map (nested_figures N k) (below field)
 
   -- a description with nothing under it
   closes : (n r : ℕ) → value (figures n 0 0 0 r) ≡ value (figures n 0 0 0 r) ⊕ value nil
@@ -116,7 +115,7 @@ module _ (s : List ℕ) (lib : TypeLib) where
 
   -- a negative field is a base type
   module _ (field : ℕ) where
-    headed : (a : Answer TypeDescription) → a ≡ lent s (type_description s lib field) → inner_of s a ≡ none → value (own a) ≡ tree_counted s lib field
+    headed : (a : Answer TypeDescription) → a ≡ lent s (type_description s lib field) → inner_of s a ≡ None → value (own a) ≡ tree_counted s lib field
     headed a e f =
         closes _ _
         ∙ ap (λ (i : Option ℕ). value (own a) ⊕ rest 31 (nested_of s lib 31) i) (sym f)
@@ -138,11 +137,11 @@ module _ (s : List ℕ) (lib : TypeLib) where
 
   module _ (a : Answer TypeDescription) where
     -- what is under a description is under no reference
-    no-reference : {below : ℕ} → inner_of s a ≡ some below → own_references a ≡ 0
+    no-reference : {below : ℕ} → inner_of s a ≡ Some below → own_references a ≡ 0
     unfolding inner_of
     no-reference {below} = by a
       where
-        by : (a : Answer TypeDescription) → inner_of s a ≡ some below → own_references a ≡ 0
+        by : (a : Answer TypeDescription) → inner_of s a ≡ Some below → own_references a ≡ 0
         by (value (type.Base vt)) h = refl
         by (value (type.Pointer x)) h = refl
         by (value (type.SafeArray x)) h = refl
@@ -166,14 +165,14 @@ module _ (s : List ℕ) (lib : TypeLib) where
       a = lent s (type_description s lib field)
 
       -- nothing is under it
-      pub leaf-counted : told_inner r.inner ≡ none → NestedCounted s lib levels field to r.to
+      pub leaf-counted : r.inner ≡ None → NestedCounted s lib levels field to r.to
       leaf-counted g =
           let e : value (own a) ≡ nested_counted s lib levels field =
           closes _ _ ∙ ap (λ (i : Option ℕ). value (own a) ⊕ rest (levels - 1) (nested_of s lib (levels - 1)) i) (sym g ∙ h.under) ∙ sym (step levels field some_left) in
           record { is = λ n. known-e e (own-counted a r.to n h.ends) }
 
       -- a tree is under it
-      pub branch-counted : {below q : ℕ} → told_inner r.inner ≡ some below → NestedCounted s lib (levels - 1) below r.to q → NestedCounted s lib levels field to q
+      pub branch-counted : {below q : ℕ} → r.inner ≡ Some below → NestedCounted s lib (levels - 1) below r.to q → NestedCounted s lib levels field to q
       unfolding nested_counted
       branch-counted {below} {q} g k =
           let m : advance to (length (head_bytes s lib a)) ≤ past = advance-most to (length (head_bytes s lib a)) few in
@@ -185,7 +184,7 @@ module _ (s : List ℕ) (lib : TypeLib) where
           record { is = λ n. known-e w (then-e (rw (e, f, advance-none n) at (own-counted a r.to n h.ends)) (k.is n)) }
 
     -- where a tree is under it, it ends at a place
-    pub branch-place : (field : ℕ) {below : ℕ} {r : Level} → LevelCounted s lib (lent s (type_description s lib field)) to r → told_inner r.inner ≡ some below → r.to ≤ past
+    pub branch-place : (field : ℕ) {below : ℕ} {r : Level} → LevelCounted s lib (lent s (type_description s lib field)) to r → r.inner ≡ Some below → r.to ≤ past
     branch-place field {below} {r} h g =
         let a : Answer TypeDescription = lent s (type_description s lib field) in
         let m : advance to (length (head_bytes s lib a)) ≤ past = advance-most to (length (head_bytes s lib a)) few in
@@ -195,13 +194,13 @@ module _ (s : List ℕ) (lib : TypeLib) where
   -- ---- pointers and safe arrays
 
   -- one of them
-  pub under_first : (field second : ℕ) (a : Answer TypeDescription) (i : Inner) → a ≡ lent s (type_description s lib field) → inner_of s a ≡ some second
-      → length (head_bytes s lib a) ≡ 1 → own_references a ≡ 0 → told_inner i ≡ some second → Under s lib 1 field i
+  pub under_first : (field second : ℕ) (a : Answer TypeDescription) (i : Option ℕ) → a ≡ lent s (type_description s lib field) → inner_of s a ≡ Some second
+      → length (head_bytes s lib a) ≡ 1 → own_references a ≡ 0 → i ≡ Some second → Under s lib 1 field i
   unfolding nested_counted
   under_first field second a i e f g h k =
       record {
         is = λ below n t.
-            let u : some second ≡ some below = sym k ∙ t in
+            let u : Some second ≡ Some below = sym k ∙ t in
             let v : second ≡ below = cc in
             let m : 1 + n - 1 ≡ n = omega arith in
             step (1 + n) field (λ z. omega (arith, z))
@@ -209,14 +208,14 @@ module _ (s : List ℕ) (lib : TypeLib) where
             ∙ rw (f, g, h, m, v);
       }
 
-  module _ (field : ℕ) {second : ℕ} (fits : Fits w32 second) {i : Inner} where
-    pub under-pointer : value (type.Pointer (to_z w32 second)) ≡ lent s (type_description s lib field) → told_inner i ≡ some second → Under s lib 1 field i
+  module _ (field : ℕ) {second : ℕ} (fits : Fits w32 second) {i : Option ℕ} where
+    pub under-pointer : value (type.Pointer (to_z w32 second)) ≡ lent s (type_description s lib field) → i ≡ Some second → Under s lib 1 field i
     unfolding head_bytes inner_of
-    under-pointer e h = under_first field second (value (type.Pointer (to_z w32 second))) i e (ap some (of_z-to_z w32 second fits)) refl refl h
+    under-pointer e h = under_first field second (value (type.Pointer (to_z w32 second))) i e (ap Some (of_z-to_z w32 second fits)) refl refl h
 
-    pub under-safe-array : value (type.SafeArray (to_z w32 second)) ≡ lent s (type_description s lib field) → told_inner i ≡ some second → Under s lib 1 field i
+    pub under-safe-array : value (type.SafeArray (to_z w32 second)) ≡ lent s (type_description s lib field) → i ≡ Some second → Under s lib 1 field i
     unfolding head_bytes inner_of
-    under-safe-array e h = under_first field second (value (type.SafeArray (to_z w32 second))) i e (ap some (of_z-to_z w32 second fits)) refl refl h
+    under-safe-array e h = under_first field second (value (type.SafeArray (to_z w32 second))) i e (ap Some (of_z-to_z w32 second fits)) refl refl h
 
   plus-plus : (k j : ℕ) (x : Answer Figures) → value (figures k 0 0 0 0) ⊕ (value (figures j 0 0 0 0) ⊕ x) ≡ value (figures (k + j) 0 0 0 0) ⊕ x
   plus-plus k j (value x) =
@@ -229,7 +228,7 @@ module _ (s : List ℕ) (lib : TypeLib) where
   plus-plus k j (refused n) = refl
 
   -- one of them to another
-  pub under-second : (field below : ℕ) {i j : Inner} → Under s lib 1 field i → told_inner i ≡ some below → Under s lib 1 below j → Under s lib 2 field j
+  pub under-second : (field below : ℕ) {i j : Option ℕ} → Under s lib 1 field i → i ≡ Some below → Under s lib 1 below j → Under s lib 2 field j
   under-second field below {i} {j} u e v =
       record {
         is = λ x n t.
@@ -241,11 +240,11 @@ module _ (s : List ℕ) (lib : TypeLib) where
       }
 
   -- nothing is said
-  pub under_none : (k field : ℕ) {i : Inner} → told_inner i ≡ none → Under s lib k field i
-  under_none k field h = record { is = λ below n t. absurd (let y : none ≡ some below = sym h ∙ t in let z : ◌≡◌ {A = ℕ} 0 1 = cc in omega arith) }
+  pub under_none : (k field : ℕ) {i : Option ℕ} → i ≡ None → Under s lib k field i
+  under_none k field h = record { is = λ below n t. absurd (let y : None ≡ Some below = sym h ∙ t in let z : ◌≡◌ {A = ℕ} 0 1 = cc in omega arith) }
 
   -- two of them, and the tree under them
-  pub two-counted : (to levels field below : ℕ) {r q : ℕ} {i : Inner} → 2 ≤ levels → Under s lib 2 field i → told_inner i ≡ some below → r ≡ advance to 2
+  pub two-counted : (to levels field below : ℕ) {r q : ℕ} {i : Option ℕ} → 2 ≤ levels → Under s lib 2 field i → i ≡ Some below → r ≡ advance to 2
       → NestedCounted s lib (levels - 2) below r q → NestedCounted s lib levels field to q
   two-counted to levels field below {r} {q} h u e f k =
       let m : levels ≡ 2 + (levels - 2) = omega arith in
@@ -265,34 +264,34 @@ module _ (s : List ℕ) (lib : TypeLib) (to : ℕ) {r : Level} where
   level-as e l = rw (← e) l
 
   -- one that is no reference
-  plain : (a : Answer TypeDescription) {n : ℕ} → length (head_bytes s lib a) ≡ n → own_references a ≡ 0 → r.to ≡ advance to n → told_inner r.inner ≡ inner_of s a → LevelCounted s lib a to r
+  plain : (a : Answer TypeDescription) {n : ℕ} → length (head_bytes s lib a) ≡ n → own_references a ≡ 0 → r.to ≡ advance to n → r.inner ≡ inner_of s a → LevelCounted s lib a to r
   plain a {n} e f g h =
       let k : advance to n ≡ advance to (length (head_bytes s lib a)) = ap (advance to) (sym e) in
       record { ends = omega (arith, f, g, k); under = h }
 
-  pub level-nothing : (n : ℕ) → (r.to ≡ advance to 1) × (told_inner r.inner ≡ none) → LevelCounted s lib (refused n) to r
+  pub level-nothing : (n : ℕ) → (r.to ≡ advance to 1) × (r.inner ≡ None) → LevelCounted s lib (refused n) to r
   unfolding head_bytes inner_of
   level-nothing n l = plain (refused n) refl refl l.0 l.1
 
-  pub level-base : (code : ℕ) → (r.to ≡ advance to 3) × (told_inner r.inner ≡ none) → LevelCounted s lib (value (type.Base code)) to r
+  pub level-base : (code : ℕ) → (r.to ≡ advance to 3) × (r.inner ≡ None) → LevelCounted s lib (value (type.Base code)) to r
   unfolding head_bytes inner_of
   level-base code l = plain (value (type.Base code)) (ap suc (length-le_bytes 2 code)) refl l.0 l.1
 
   module _ {second : ℕ} (fits : Fits w32 second) where
-    pub level-pointer : r.to ≡ advance to 1 → told_inner r.inner ≡ some second → LevelCounted s lib (value (type.Pointer (to_z w32 second))) to r
+    pub level-pointer : r.to ≡ advance to 1 → r.inner ≡ Some second → LevelCounted s lib (value (type.Pointer (to_z w32 second))) to r
     unfolding head_bytes inner_of
-    level-pointer e f = plain (value (type.Pointer (to_z w32 second))) refl refl e (f ∙ ap some (sym (of_z-to_z w32 second fits)))
+    level-pointer e f = plain (value (type.Pointer (to_z w32 second))) refl refl e (f ∙ ap Some (sym (of_z-to_z w32 second fits)))
 
-    pub level-safe-array : r.to ≡ advance to 1 → told_inner r.inner ≡ some second → LevelCounted s lib (value (type.SafeArray (to_z w32 second))) to r
+    pub level-safe-array : r.to ≡ advance to 1 → r.inner ≡ Some second → LevelCounted s lib (value (type.SafeArray (to_z w32 second))) to r
     unfolding head_bytes inner_of
-    level-safe-array e f = plain (value (type.SafeArray (to_z w32 second))) refl refl e (f ∙ ap some (sym (of_z-to_z w32 second fits)))
+    level-safe-array e f = plain (value (type.SafeArray (to_z w32 second))) refl refl e (f ∙ ap Some (sym (of_z-to_z w32 second fits)))
 
-    pub level-user : {n : ℕ} → n ≡ advance to (length (user_bytes s lib second)) → r.to ≡ n + 2 ^ 32 → told_inner r.inner ≡ none → LevelCounted s lib (value (type.UserDefined (to_z w32 second))) to r
+    pub level-user : {n : ℕ} → n ≡ advance to (length (user_bytes s lib second)) → r.to ≡ n + 2 ^ 32 → r.inner ≡ None → LevelCounted s lib (value (type.UserDefined (to_z w32 second))) to r
     unfolding head_bytes inner_of
     level-user {n} e f g = record { ends = rw (of_z-to_z w32 second fits) (omega (arith, e, f)); under = g }
 
   -- by its emitter
-  pub level-put : (a : Answer TypeDescription) → to ≤ past → own_references a ≡ 0 → Levelled s lib a (put to) [] (put r.to) [] (told_inner r.inner) → LevelCounted s lib a to r
+  pub level-put : (a : Answer TypeDescription) → to ≤ past → own_references a ≡ 0 → Levelled s lib a (put to) [] (put r.to) [] r.inner → LevelCounted s lib a to r
   level-put a few e l =
       let m : put r.to ≡ At (advance to (length (head_bytes s lib a))) = l.0.moves ∙ ap (λ (t : Put). moved t (value (head_bytes s lib a))) (put-at to few) in
       plain a refl e (place_is r.to m) l.1
@@ -300,6 +299,14 @@ module _ (s : List ℕ) (lib : TypeLib) (to : ℕ) {r : Level} where
 -- where an emission of bytes ends that began at a place
 pub place-measured : (to r : ℕ) (bs : List ℕ) → to ≤ past → Measured (value bs) to r → r ≡ advance to (length bs)
 place-measured to r bs few h = place_is r (h.moves ∙ ap (λ (t : Put). moved t (value bs)) (put-at to few))
+
+-- the code of a pointer or of a safe array
+pub over-one : (s : List ℕ) (lib : TypeLib) (code second : ℕ) (P : Answer TypeDescription → Type 0) → 26 ≤ code → code < 28
+    → P (value (type.Pointer (to_z w32 second))) → P (value (type.SafeArray (to_z w32 second))) → P (description_of s lib code second)
+unfolding description_of
+over-one s lib code second P h k a b =
+    cond-elim P (eqb code 26) _ _ (λ _. a) (λ e.
+    cond-elim P (eqb code 27) _ _ (λ _. b) (λ f. absurd (omega (arith, eqb-false code 26 e, eqb-false code 27 f))))
 
 -- a descriptor of another code is no reference
 pub no-user : (s : List ℕ) (lib : TypeLib) (code second : ℕ) → (code ≡ 29 → ⊥) → own_references (description_of s lib code second) ≡ 0

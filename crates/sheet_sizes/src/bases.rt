@@ -5,20 +5,21 @@ ghost use Rattle.sheet_sizes.specs.Counts.{Ending, Measured};
 ghost use Rattle.typelib.specs.Header.{library};
 
 use crate::{Ends, trees};
-use impltypes::{ImplTypeCursor, ImplTypeStep, ImplTypesAnswer};
+use cursors::iterators::Step;
+use impltypes::ImplTypeCursor;
+use records::answer::Refusal;
 use records::field::LIMIT;
 use records::refrecord::RefRecord;
 use records::typeinfo::TypeInfoEntry;
 use sheet_trees::references;
 use typelib::Numbers;
 
-// The base of a type of that kind.
+// The base of a type of that kind. (A kind is any number of the file: those with a base have an arm.)
 pub(crate) fn after_base(s: &[u8], lib: &Numbers, ti: TypeInfoEntry, kind: u32, from: Ends) -> Ends
     ensures { Ending (base_counted s.now (library lib.now) ti kind) from result }
 {
     match kind {
-        3 => after_parent(&*s, lib, emit::word_at(s, ti.at, 0x54), from),
-        4 => after_parent(&*s, lib, emit::word_at(s, ti.at, 0x54), from),
+        3 | 4 => after_parent(&*s, lib, emit::word_at(s, ti.at, 0x54), from),
         5 => after_chain(&*s, lib, ti, from),
         6 => trees::after_tree(&*s, lib, emit::word_at(s, ti.at, 0x54), from),
         _ => from,
@@ -41,22 +42,23 @@ fn after_chain(s: &[u8], lib: &Numbers, ti: TypeInfoEntry, from: Ends) -> Ends
     ensures { Ending (impl_types_counted s.now (library lib.now) ti) from result }
 {
     match impltypes::impl_types_at(lib, &*s, ti) {
-        ImplTypesAnswer::Value(cursor) => after_links(&*s, lib, cursor, from),
-        ImplTypesAnswer::Refused(n) => Ends {
-            to: emit::put_refusal(from.to, n),
+        Ok(cursor) => after_links(&*s, lib, cursor, from),
+        Err(refusal) => Ends {
+            to: emit::put_refusal(from.to, refusal),
             references: from.references,
         },
     }
 }
 
-// The chain from a cursor on; 10 where it comes round. It is not walked first: its records are counted on the way, a reference each.
+// The chain from a cursor on; refusal 10 where it comes round. It is not walked first: its records are counted on the way, a reference each.
 // (There is room for no more than length - 15 records at different offsets.)
+// (A `loop`: a `for` of a turn too many replies the same and is proved too, but a circle said a record too late must be refused.)
 fn after_links(s: &[u8], lib: &Numbers, cursor: ImplTypeCursor, from: Ends) -> Ends
     ensures { Ending (chain_counted s.now (library lib.now) cursor) from result }
 {
     if LIMIT < s.len() {
         return Ends {
-            to: emit::put_refusal(from.to, 1),
+            to: emit::put_refusal(from.to, Refusal::OverLong),
             references: from.references,
         };
     }
@@ -64,7 +66,7 @@ fn after_links(s: &[u8], lib: &Numbers, cursor: ImplTypeCursor, from: Ends) -> E
     let mut c = cursor;
     let mut n: usize = 0;
     loop {
-        let ImplTypeStep::Record(link, _, next) = c.step(&*s) else {
+        let Step::Record(link, _, next) = c.step(&*s) else {
             return Ends {
                 to: t,
                 references: crate::ahead(from.references, n),
@@ -72,7 +74,7 @@ fn after_links(s: &[u8], lib: &Numbers, cursor: ImplTypeCursor, from: Ends) -> E
         };
         if s.len() - 15 <= n {
             return Ends {
-                to: emit::put_refusal(from.to, 10),
+                to: emit::put_refusal(from.to, Refusal::Circle),
                 references: from.references,
             };
         }

@@ -1,6 +1,6 @@
 // Functions.
 ghost use Rattle.std.specs.Prelude.{◌≡◌};
-ghost use Rattle.records.specs.Told.{told_i32};
+ghost use Rattle.records.specs.Told.{told};
 ghost use Rattle.sheet_trees.specs.Names.{Near};
 ghost use Rattle.sheet_sizes.specs.Counted.{functions_counted, functions_from};
 ghost use Rattle.sheet_sizes.specs.Counts.{Counting};
@@ -9,28 +9,29 @@ ghost use Rattle.typelib.specs.Header.{library};
 
 use crate::{Count, Ends, names, parameters, trees};
 use cursors::iterators;
-use cursors::iterators::{FuncCursor, FuncStep, FuncsAnswer};
+use cursors::iterators::{FuncCursor, Step};
 use member_records::func::FuncRecord;
-use records::answer::I32Answer;
+use records::answer::Refusal;
 use records::typeinfo::TypeInfoEntry;
 use sheet_members::words;
 use sheet_trees::names::Names;
 use typelib::Numbers;
 
-// The functions of a type: their count, and each.
+// The functions of a type: their count, and each. (Not one with `variables`: a trait for the two cursors would take the whole of a step
+// and what is looked up once for all, which differ, and be no plainer.)
 pub(crate) fn after_functions(s: &[u8], lib: &Numbers, ti: TypeInfoEntry, from: Count) -> Count
     ensures { Counting (functions_counted s.now (library lib.now) ti) from result }
 {
     let begun = crate::moved(from, crate::ahead(from.to, 2));
     match iterators::funcs(&*s, ti) {
-        FuncsAnswer::Value(cursor) => {
+        Ok(cursor) => {
             // (where there are none, nothing need be looked up for them)
             if cursor.remaining == 0 {
                 return begun;
             }
             after_each(&*s, lib, ti, cursor, begun)
         }
-        FuncsAnswer::Refused(_) => begun,
+        Err(_) => begun,
     }
 }
 
@@ -43,12 +44,9 @@ fn after_each(s: &[u8], lib: &Numbers, ti: TypeInfoEntry, cursor: FuncCursor, fr
     let names = sheet_trees::names::names_of(&*s, lib);
     let mut t = from;
     let mut c = cursor;
-    loop {
-        if emit::PAST < t.to {
-            return t;
-        }
-        let FuncStep::Record(func, number, next) = c.step(&*s) else {
-            return t;
+    while t.to <= emit::PAST {
+        let Step::Record(func, number, next) = c.step(&*s) else {
+            break;
         };
         let i = number as usize;
         let memid = words::word(&*s, rows.memids, i);
@@ -56,6 +54,7 @@ fn after_each(s: &[u8], lib: &Numbers, ti: TypeInfoEntry, cursor: FuncCursor, fr
         t = after_function(&*s, lib, names, memid, name_offset, func, t);
         c = next;
     }
+    t
 }
 
 // A function, with its identifier and the offset of its name: of any type, at any index, that have these two.
@@ -63,13 +62,13 @@ fn after_function(
     s: &[u8],
     lib: &Numbers,
     names: Names,
-    memid: I32Answer,
-    name_offset: I32Answer,
+    memid: Result<i32, Refusal>,
+    name_offset: Result<i32, Refusal>,
     func: FuncRecord,
     from: Count,
 ) -> Count
     requires { Near s.now (library lib.now) names }
-    ensures { FunctionCounted s.now (library lib.now) (told_i32 memid) (told_i32 name_offset) func from result }
+    ensures { FunctionCounted s.now (library lib.now) (told memid) (told name_offset) func from result }
 {
     let t = names::after_memid(memid, from.to);
     let t = names::after_name_by(&*s, lib, names, name_offset, t);
@@ -87,9 +86,8 @@ fn after_function(
     let c = Count {
         to: crate::ahead(result.to, 14),
         functions: crate::ahead(from.functions, 1),
-        parameters: from.parameters,
-        variables: from.variables,
         references: result.references,
+        ..from
     };
     parameters::after_parameters(&*s, lib, names, func, c)
 }

@@ -17,8 +17,8 @@ ghost use Rattle.sheet_sizes.specs.Counts.{Counting, CountingAll, Measured};
 ghost use Rattle.sheet_sizes.specs.Told.{told_figures};
 ghost use Rattle.typelib.specs.Header.{library};
 
+use records::answer::Refusal;
 use records::typeinfo::TypeInfoEntry;
-use typelib::typeinfos::TypeInfoAnswer;
 use typelib::{Numbers, TypeInfoIndex, TypeLib, tables, typeinfos};
 
 mod bases;
@@ -44,12 +44,6 @@ pub struct SheetFigures {
     pub references: u32,
 }
 
-#[derive(Clone, Copy)]
-pub enum FiguresAnswer {
-    Value(SheetFigures),
-    Refused(u8),
-}
-
 // Where the parts so far end, and what they read.
 #[derive(Clone, Copy)]
 pub struct Count {
@@ -68,22 +62,18 @@ pub struct Ends {
 }
 
 // The figures of the library's sheet, or the refusal that its sheet call gives whatever the output. (Never 12: there is no output.)
-pub fn figures(s: &[u8]) -> FiguresAnswer
+pub fn figures(s: &[u8]) -> Result<SheetFigures, Refusal>
     ensures { told_figures result ≡ figures_of edition-one s.now }
 {
-    let parsed = TypeLib::parse(&*s);
-    if parsed.number != 0 {
-        return FiguresAnswer::Refused(parsed.number);
-    }
-    let lib = parsed.lib;
+    let lib = TypeLib::parse(&*s)?;
     if MOST_TYPES < lib.count() {
-        return FiguresAnswer::Refused(13);
+        return Err(Refusal::TooManyTypes);
     }
     let whole = count_sheet(&*s, &lib.numbers);
     if emit::PAST < whole.to {
-        return FiguresAnswer::Refused(((whole.to - emit::PAST - 1) % 256) as u8);
+        return Err(emit::refusal(whole.to));
     }
-    FiguresAnswer::Value(SheetFigures {
+    Ok(SheetFigures {
         length: whole.to as u32,
         functions: whole.functions as u32,
         parameters: whole.parameters as u32,
@@ -92,8 +82,8 @@ pub fn figures(s: &[u8]) -> FiguresAnswer
     })
 }
 
-// What the whole sheet comes to: its contents, the library's own body, and the types. (Where it is refused, `to` has the number, as a place
-// of `emit` does, and the other four mean nothing.)
+// What the whole sheet comes to: its contents, the library's own body, and the types. (Where it is refused, `to` is past all places, as
+// `emit` has it, and the other four mean nothing.)
 pub fn count_sheet(s: &[u8], lib: &Numbers) -> Count
     ensures { CountingAll (library_counted s.now (library lib.now)) result }
 {
@@ -128,24 +118,22 @@ fn after_types(s: &[u8], lib: &Numbers, from: Count) -> Count
 {
     let count = tables::count(lib) as usize;
     let mut c = from;
-    let mut i: usize = 0;
-    while i < count {
+    for i in 0..count {
         if emit::PAST < c.to {
             return c;
         }
         c = after_type_of(&*s, lib, TypeInfoIndex(i), c);
-        i += 1;
     }
     c
 }
 
-// Type `index` of the library; 6, 7 or 8 where there is none.
+// Type `index` of the library; refusal 6, 7 or 8 where there is none.
 fn after_type_of(s: &[u8], lib: &Numbers, index: TypeInfoIndex, from: Count) -> Count
     ensures { Counting (type_counted s.now (library lib.now) index.0) from result }
 {
     match typeinfos::typeinfo_at(lib, &*s, index) {
-        TypeInfoAnswer::Value(ti) => after_type(&*s, lib, ti, from),
-        TypeInfoAnswer::Refused(n) => moved(from, emit::put_refusal(from.to, n)),
+        Ok(ti) => after_type(&*s, lib, ti, from),
+        Err(refusal) => moved(from, emit::put_refusal(from.to, refusal)),
     }
 }
 
@@ -185,13 +173,7 @@ fn after_names(s: &[u8], lib: &Numbers, at: usize, to: usize) -> usize
 pub(crate) fn moved(c: Count, to: usize) -> Count
     ensures { result ≡ record { to = to; functions = c.functions; parameters = c.parameters; variables = c.variables; references = c.references } }
 {
-    Count {
-        to,
-        functions: c.functions,
-        parameters: c.parameters,
-        variables: c.variables,
-        references: c.references,
-    }
+    Count { to, ..c }
 }
 
 // The same functions, parameters and variables, where a part without any ended.
@@ -200,10 +182,8 @@ pub(crate) fn ended(c: Count, e: Ends) -> Count
 {
     Count {
         to: e.to,
-        functions: c.functions,
-        parameters: c.parameters,
-        variables: c.variables,
         references: e.references,
+        ..c
     }
 }
 
@@ -216,5 +196,5 @@ pub(crate) fn ahead(to: usize, n: usize) -> usize
             return to + n;
         }
     }
-    if to < emit::PAST { emit::PAST } else { to }
+    to.max(emit::PAST)
 }

@@ -1,11 +1,11 @@
 // Names, identifiers and GUIDs that may be missing: one byte for nothing, or one more than the value has.
-ghost use Rattle.records.specs.Told.{told_i32};
+ghost use Rattle.records.specs.Told.{told};
 ghost use Rattle.sheet_trees.specs.Names.{Near};
 ghost use Rattle.sheet_sizes.specs.Counts.{Measured};
 ghost use Rattle.sheet_trees.specs.Emitted.{guid_emitted, memid_emitted, name_by_emitted, name_emitted};
 ghost use Rattle.typelib.specs.Header.{library};
 
-use records::answer::{I32Answer, PlaceAnswer};
+use records::answer::Refusal;
 use sheet_trees::names::Names;
 use typelib::Numbers;
 
@@ -14,8 +14,8 @@ pub(crate) fn after_guid(s: &[u8], lib: &Numbers, offset: u32, to: usize) -> usi
     ensures { Measured (guid_emitted s.now (library lib.now) offset) to result }
 {
     match typelib::names::guid_at(lib, &*s, offset) {
-        PlaceAnswer::Value(_) => crate::ahead(to, 17),
-        PlaceAnswer::Refused(_) => crate::ahead(to, 1),
+        Ok(_) => crate::ahead(to, 17),
+        Err(_) => crate::ahead(to, 1),
     }
 }
 
@@ -25,8 +25,8 @@ pub(crate) fn after_name(s: &[u8], lib: &Numbers, names: Names, offset: u32, to:
     ensures { Measured (name_emitted s.now (library lib.now) offset) to result }
 {
     match sheet_trees::names::name_at(&*s, lib, names, offset) {
-        PlaceAnswer::Value(p) => crate::ahead(to, 2 + p.len),
-        PlaceAnswer::Refused(_) => crate::ahead(to, 1),
+        Ok(p) => crate::ahead(to, 2 + p.len),
+        Err(_) => crate::ahead(to, 1),
     }
 }
 
@@ -35,24 +35,24 @@ pub(crate) fn after_name_by(
     s: &[u8],
     lib: &Numbers,
     names: Names,
-    offset: I32Answer,
+    offset: Result<i32, Refusal>,
     to: usize,
 ) -> usize
     requires { Near s.now (library lib.now) names }
-    ensures { Measured (name_by_emitted s.now (library lib.now) (told_i32 offset)) to result }
+    ensures { Measured (name_by_emitted s.now (library lib.now) (told offset)) to result }
 {
-    let I32Answer::Value(x) = offset else {
+    let Ok(x) = offset else {
         return crate::ahead(to, 1);
     };
-    after_name(&*s, lib, names, util::unsigned32(x), to)
+    after_name(&*s, lib, names, x.cast_unsigned(), to)
 }
 
 // A member's identifier.
-pub(crate) fn after_memid(memid: I32Answer, to: usize) -> usize
-    ensures { Measured (memid_emitted (told_i32 memid)) to result }
+pub(crate) fn after_memid(memid: Result<i32, Refusal>, to: usize) -> usize
+    ensures { Measured (memid_emitted (told memid)) to result }
 {
     match memid {
-        I32Answer::Value(_) => crate::ahead(to, 5),
-        I32Answer::Refused(_) => crate::ahead(to, 1),
+        Ok(_) => crate::ahead(to, 5),
+        Err(_) => crate::ahead(to, 1),
     }
 }

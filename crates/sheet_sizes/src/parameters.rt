@@ -1,5 +1,5 @@
 // Parameters.
-ghost use Rattle.records.specs.Told.{told_i32};
+ghost use Rattle.records.specs.Told.{told};
 ghost use Rattle.sheet_members.specs.Emitted.{constant_by_emitted};
 ghost use Rattle.sheet_members.specs.Room.{Room};
 ghost use Rattle.sheet_trees.specs.Names.{Near};
@@ -9,9 +9,9 @@ ghost use Rattle.typelib.specs.Header.{library};
 
 use crate::{Count, Ends, names, trees};
 use cursors::iterators;
-use cursors::iterators::{ParamCursor, ParamsAnswer};
+use cursors::iterators::ParamCursor;
 use member_records::func::FuncRecord;
-use records::answer::I32Answer;
+use records::answer::Refusal;
 use sheet_trees::names::Names;
 use typelib::Numbers;
 
@@ -28,7 +28,7 @@ pub(crate) fn after_parameters(
 {
     let t = crate::ahead(from.to, 2);
     match iterators::params(&*s, func) {
-        ParamsAnswer::Value(cursor) => {
+        Ok(cursor) => {
             let each = after_each(
                 &*s,
                 lib,
@@ -48,7 +48,7 @@ pub(crate) fn after_parameters(
                 references: each.references,
             }
         }
-        ParamsAnswer::Refused(_) => crate::moved(from, t),
+        Err(_) => crate::moved(from, t),
     }
 }
 
@@ -67,15 +67,14 @@ fn after_each(
     ensures { Ending (parameters_from s.now (library lib.now) func cursor) from result }
 {
     let mut t = from;
-    let mut i: usize = 0;
-    while i < cursor.remaining {
+    for i in 0..cursor.remaining {
         t = after_parameter(&*s, lib, names, func, i, cursor.pos + 12 * i, t);
-        i += 1;
     }
     t
 }
 
 // Parameter `index` of `func`, at `at`. It has a default value where its flags have 0x20.
+// (The flag is tested as its definition `flag_set` tests it, and as the emitter does.)
 fn after_parameter(
     s: &[u8],
     lib: &Numbers,
@@ -106,8 +105,8 @@ fn after_parameter(
 }
 
 // A default value, by the emitter over an output with no room: few parameters have one.
-fn after_default(s: &[u8], lib: &Numbers, offset: I32Answer, to: usize) -> usize
-    ensures { Measured (constant_by_emitted s.now (library lib.now) (told_i32 offset)) to result }
+fn after_default(s: &[u8], lib: &Numbers, offset: Result<i32, Refusal>, to: usize) -> usize
+    ensures { Measured (constant_by_emitted s.now (library lib.now) (told offset)) to result }
 {
     let mut none = [0u8; 0];
     sheet_members::parameters::put_constant_by(&*s, lib, offset, &mut none, to)

@@ -1,18 +1,16 @@
 // Trees.
-ghost use Rattle.std.specs.Prelude.{◌≡◌, ◌≤◌};
-ghost use Rattle.std.proofs.Math.Option.{none};
+ghost use Rattle.std.specs.Prelude.{◌≡◌, ◌≤◌, None};
 ghost use Rattle.emit.specs.Emit.{advance, past};
-ghost use Rattle.sheet_trees.specs.Parts.{told_inner};
 ghost use Rattle.sheet_sizes.specs.Counted.{tree_counted};
 ghost use Rattle.sheet_sizes.specs.Counts.{Ending};
 ghost use Rattle.sheet_sizes.specs.Trees.{DescriptorCounted, FieldCounted, NestedCounted, UserCounted, Under};
 ghost use Rattle.typelib.specs.Header.{library};
 
 use crate::Ends;
+use records::answer::Refusal;
 use records::field::LIMIT;
-use sheet_trees::trees::{Inner, Level};
+use sheet_trees::trees::Level;
 use sheet_trees::{references, trees};
-use typelib::descriptors::PairAnswer;
 use typelib::{Numbers, descriptors};
 use util::NEGATIVE;
 
@@ -23,7 +21,7 @@ const LEVELS: usize = 32;
 // and this much more behind a reference. (A tree has at most one, its last description.)
 const REFERENCE: usize = 0x1_0000_0000;
 
-// Refusal 11, as a place.
+// Refusal 11, as a place. (A place and a refusal are one number, as in `emit`; a constant has no call of `put_refusal`.)
 const TOO_DEEP: usize = 16_777_229;
 
 // The tree of a type field. (Most are negative, and need nothing but their own number.)
@@ -62,47 +60,40 @@ fn after_nested(s: &[u8], lib: &Numbers, field: u32, levels: usize, to: usize) -
         return TOO_DEEP;
     }
     if 2 <= levels {
-        let under = under_two(&*s, lib, field);
-        if let Inner::Field(below) = under {
+        if let Some(below) = under_two(&*s, lib, field) {
             return after_nested(&*s, lib, below, levels - 2, crate::ahead(to, 2));
         }
     }
     let level = after_level(&*s, lib, field, to);
-    let inner = level.inner;
-    match inner {
-        Inner::Field(below) => after_nested(&*s, lib, below, levels - 1, level.to),
-        Inner::Nothing => level.to,
+    match level.inner {
+        Some(below) => after_nested(&*s, lib, below, levels - 1, level.to),
+        None => level.to,
     }
 }
 
 // The type field under a pointer or a safe array to another.
-fn under_two(s: &[u8], lib: &Numbers, field: u32) -> Inner
+fn under_two(s: &[u8], lib: &Numbers, field: u32) -> Option<u32>
     ensures { Under s.now (library lib.now) 2 field result }
 {
-    let one = under_one(&*s, lib, field);
-    let Inner::Field(below) = one else {
-        return Inner::Nothing;
-    };
-    under_one(&*s, lib, below)
+    under_one(&*s, lib, under_one(&*s, lib, field)?)
 }
 
 // The type field under a pointer or a safe array.
-fn under_one(s: &[u8], lib: &Numbers, field: u32) -> Inner
+fn under_one(s: &[u8], lib: &Numbers, field: u32) -> Option<u32>
     ensures { Under s.now (library lib.now) 1 field result }
 {
     if LIMIT < s.len() {
-        return Inner::Nothing;
+        return None;
     }
     if NEGATIVE <= field {
-        return Inner::Nothing;
+        return None;
     }
-    let PairAnswer::Value(words) = descriptors::type_desc_at(lib, &*s, field) else {
-        return Inner::Nothing;
+    let Ok(words) = descriptors::type_desc_at(lib, &*s, field) else {
+        return None;
     };
     match util::bits(words.first, 0, 12) {
-        26 => Inner::Field(words.second),
-        27 => Inner::Field(words.second),
-        _ => Inner::Nothing,
+        26 | 27 => Some(words.second),
+        _ => None,
     }
 }
 
@@ -118,29 +109,25 @@ fn after_level(s: &[u8], lib: &Numbers, field: u32, to: usize) -> Level
         return leaf(to, 3);
     }
     match descriptors::type_desc_at(lib, &*s, field) {
-        PairAnswer::Value(words) => after_descriptor(&*s, lib, words.first, words.second, to),
-        PairAnswer::Refused(_) => leaf(to, 1),
+        Ok(words) => after_descriptor(&*s, lib, words.first, words.second, to),
+        Err(_) => leaf(to, 1),
     }
 }
 
 // The description that the two words of a type descriptor are: by its emitter, over an output with no room, unless it is a
-// pointer or a safe array, as most are.
+// pointer or a safe array, as most are. (A code is any number of the file: those that mean something have an arm.)
 fn after_descriptor(s: &[u8], lib: &Numbers, first: u32, second: u32, to: usize) -> Level
     requires { to ≤ past }
     ensures { DescriptorCounted s.now (library lib.now) first second to result }
 {
     match util::bits(first, 0, 12) {
-        26 => Level {
+        26 | 27 => Level {
             to: crate::ahead(to, 1),
-            inner: Inner::Field(second),
-        },
-        27 => Level {
-            to: crate::ahead(to, 1),
-            inner: Inner::Field(second),
+            inner: Some(second),
         },
         29 => Level {
             to: after_user(&*s, lib, second, to) + REFERENCE,
-            inner: Inner::Nothing,
+            inner: None,
         },
         _ => {
             let mut none = [0u8; 0];
@@ -160,10 +147,10 @@ fn after_user(s: &[u8], lib: &Numbers, href: u32, to: usize) -> usize
 
 // A description of `n` bytes with nothing under it.
 fn leaf(to: usize, n: usize) -> Level
-    ensures { (result.to ≡ advance to n) × (told_inner result.inner ≡ none) }
+    ensures { (result.to ≡ advance to n) × (result.inner ≡ None) }
 {
     Level {
         to: crate::ahead(to, n),
-        inner: Inner::Nothing,
+        inner: None,
     }
 }

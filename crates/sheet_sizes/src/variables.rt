@@ -8,7 +8,7 @@ ghost use Rattle.typelib.specs.Header.{library};
 
 use crate::{Count, Ends, names, trees};
 use cursors::iterators;
-use cursors::iterators::{VarCursor, VarStep, VarsAnswer};
+use cursors::iterators::{Step, VarCursor};
 use member_records::var::VarRecord;
 use records::typeinfo::TypeInfoEntry;
 use sheet_trees::names::Names;
@@ -20,8 +20,8 @@ pub(crate) fn after_variables(s: &[u8], lib: &Numbers, ti: TypeInfoEntry, from: 
 {
     let begun = crate::moved(from, crate::ahead(from.to, 2));
     match iterators::vars(&*s, ti) {
-        VarsAnswer::Value(cursor) => after_each(&*s, lib, ti, cursor, begun),
-        VarsAnswer::Refused(_) => begun,
+        Ok(cursor) => after_each(&*s, lib, ti, cursor, begun),
+        Err(_) => begun,
     }
 }
 
@@ -33,16 +33,14 @@ fn after_each(s: &[u8], lib: &Numbers, ti: TypeInfoEntry, cursor: VarCursor, fro
     let names = sheet_trees::names::names_of(&*s, lib);
     let mut t = from;
     let mut c = cursor;
-    loop {
-        if emit::PAST < t.to {
-            return t;
-        }
-        let VarStep::Record(var, number, next) = c.step(&*s) else {
-            return t;
+    while t.to <= emit::PAST {
+        let Step::Record(var, number, next) = c.step(&*s) else {
+            break;
         };
         t = after_variable(&*s, lib, names, ti, number as usize, var, t);
         c = next;
     }
+    t
 }
 
 // Variable `index` of `ti`.
@@ -77,10 +75,9 @@ fn after_variable(
     let t = crate::ahead(tree.to, 6);
     Count {
         to: after_value(&*s, lib, varkind, word, t),
-        functions: from.functions,
-        parameters: from.parameters,
         variables: crate::ahead(from.variables, 1),
         references: tree.references,
+        ..from
     }
 }
 

@@ -1,10 +1,5 @@
 -- Names that are near. Assumes nothing.
-use mathlib.Core.Path.{◌≡◌, refl, ap, ◌∙◌}
-use mathlib.Core.List.{List}
-use Prim.Native.Nat.{ℕ, ◌+◌, ◌≤◌, ◌<◌}
-use native.Mathlib.Omega.{arith}
-use lib.ListN.{length}
-use borrow.Author.Tests.{lt-ltb, le-ltb}
+use Rattle.std.proofs.Common.{◌≡◌, refl, ap, ◌∙◌, List, ℕ, ◌+◌, ◌≤◌, ◌<◌, arith, length, lt-ltb, le-ltb}
 use Rattle.util.specs.Read.{read, or_zero, read-zero}
 use Rattle.records.specs.declared.answer.Place.{Place}
 use Rattle.records.specs.Answer.{Answer, value}
@@ -18,9 +13,6 @@ use Rattle.sheet_trees.specs.declared.names.Names.{Names}
 use Rattle.sheet_trees.specs.Names.{Near, name_in}
 
 module _ (s : List ℕ) (lib : TypeLib) where
-  pub near_none : (at : ℕ) → Near s lib (record { at = at; near = 0 })
-  near_none at offset n h k = absurd (omega (arith, h))
-
   -- what ends inside a table when it is longest and as far as `near` is inside wherever it is nearer and shorter
   pub near-table : (table : Place) (near : ℕ) → length s ≤ limit → table ≡ table_of (segment_of lib 7) → 0 < table.len → near + 266 ≤ table.len
       → table.at + table.len ≤ length s → Near s lib (record { at = table.at; near = near })

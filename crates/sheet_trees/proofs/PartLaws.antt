@@ -1,40 +1,23 @@
 -- The bytes of `Parts` are those of the formats. Assumes nothing.
+use Rattle.std.proofs.Common.{Option, Some, None, Ok, Err, ◌≡◌, refl, sym, ap, ◌∙◌, Bool, true, false, cond, List, [], ◌∷◌, ℕ, ◌+◌, ◌-◌, ◌*◌, ◌/◌, ◌%◌, ◌^◌, ◌≤◌, ◌<◌, arith, ℤ, length, ltb, eq-eqb, ne_eqb, le-leb, eqb-true, w32, of_z}
+use Rattle.std.proofs.lemmas.Bool.{lt-leb}
+use Rattle.std.specs.declared.result.Result.{Result}
 use Rattle.typelib.specs.Header.{type_count}
-use mathlib.Core.Path.{◌≡◌, refl, sym, ap, ◌∙◌}
-use mathlib.Core.Bool.{Bool, true, false, cond}
-use mathlib.Core.Option.{Option, some, none}
-use mathlib.Core.List.{List, [], ◌∷◌}
-use Prim.Native.Nat.{ℕ, ◌+◌, ◌-◌, ◌*◌, ◌/◌, ◌%◌, ◌^◌, ◌≤◌, ◌<◌}
-use native.Mathlib.Omega.{arith}
-use lib.IntN.{ℤ}
-use lib.ListN.{length}
-use lib.Dec.{ltb}
-use borrow.Author.Tests.{eq-eqb, ne_eqb, le-leb, lt-leb, eqb-true}
-use mir.Syntax.{w32}
-use mir.Val.{of_z}
 use Rattle.util.specs.Read.{read, or_zero, cond-elim}
 use Rattle.records.specs.declared.answer.Place.{Place}
-use Rattle.records.specs.declared.answer.PlaceAnswer.{PlaceAnswer}
-use Rattle.records.specs.declared.answer.PlaceAnswer.TheVariants as place
-use Rattle.records.specs.declared.answer.I32Answer.{I32Answer}
-use Rattle.records.specs.declared.answer.I32Answer.TheVariants as i32
+use Rattle.records.specs.declared.answer.Refusal.{Refusal}
 use Rattle.records.specs.Answer.{Answer, value, refused, map}
 use Rattle.records.specs.Counted.{file_name_bytes}
 use Rattle.records.specs.Record.{limit, part_of, bits_of, flag_set}
-use Rattle.records.specs.Told.{told_i32, told_place}
+use Rattle.records.specs.Told.{told, refusal_number}
 use Rattle.typelib.specs.declared.TypeLib.{TypeLib}
 use Rattle.records.specs.declared.impfile.ImpFile.{ImpFile}
-use Rattle.typelib.specs.declared.references.ImpFileAnswer.{ImpFileAnswer}
-use Rattle.typelib.specs.declared.references.ImpFileAnswer.TheVariants as imp_file
-use Rattle.typelib.specs.declared.references.ResolvedAnswer.{ResolvedAnswer}
-use Rattle.typelib.specs.declared.references.ResolvedAnswer.TheVariants as resolved
 use Rattle.typelib.specs.declared.references.ResolvedHreftype.{ResolvedHreftype}
 use Rattle.typelib.specs.Names.{guid_place, name_bytes}
-use Rattle.typelib.specs.References.{Resolved, dispatch_bit, cleared, internal_index, resolved_at, href_resolved}
+use Rattle.typelib.specs.References.{Resolved, dispatch_bit, cleared, internal_index, resolved_at, href_resolved, internal as here, external}
 use Rattle.typelib.specs.ReferenceLaws.{index-there, index-beyond, resolved-internal as in-this-file}
 use Rattle.typelib.specs.Tables.{lent, negative}
 use Rattle.typelib.specs.TableLaws.{lent-long, lent_fits}
-use Rattle.typelib.specs.References.{internal as here, external}
 use Rattle.typelib.specs.Told.{told_imp_file, told_hreftype, told_resolved}
 use Rattle.description.specs.Format.{encode, opt, le_bytes}
 use Rattle.description.specs.Description.{Bytes, own_is_guid, Reference}
@@ -53,31 +36,31 @@ use Rattle.sheet_trees.specs.Parts.{opt_part, reference_bytes, internal_bytes, m
 
 part-guid : (o : Option Bytes) → opt_part 0 o ≡ encode (opt guid) o
 unfolding opt_part opt guid le_bytes
-part-guid none = refl
-part-guid (some bs) = refl
+part-guid None = refl
+part-guid (Some bs) = refl
 
 part-name : (o : Option Bytes) → opt_part 1 o ≡ encode (opt name) o
 unfolding opt_part opt name
-part-name none = refl
-part-name (some bs) = refl
+part-name None = refl
+part-name (Some bs) = refl
 
 module _ (s : List ℕ) where
-  module _ {a : PlaceAnswer} {p : Place} {bs : Bytes} (e : a ≡ place.Value p) (f : bs ≡ part_of s (value p)) where
-    pub part-some : value (1 ∷ []) ▸ value bs ≡ value (opt_part 0 (found (bytes_in s (told_place a))))
+  module _ {a : Result Place Refusal} {p : Place} {bs : Bytes} (e : a ≡ Ok p) (f : bs ≡ part_of s (value p)) where
+    pub part-some : value (1 ∷ []) ▸ value bs ≡ value (opt_part 0 (found (bytes_in s (told a))))
     unfolding opt_part le_bytes
     part-some = rw (e, f)
 
   -- the byte 1 and the count are put as one number
-  pub counted-some : {a : PlaceAnswer} {p : Place} → a ≡ place.Value p → counted_part s p ≡ value (opt_part 1 (found (bytes_in s (told_place a))))
+  pub counted-some : {a : Result Place Refusal} {p : Place} → a ≡ Ok p → counted_part s p ≡ value (opt_part 1 (found (bytes_in s (told a))))
   unfolding opt_part le_bytes counted_part
   counted-some {a} {p} e =
       let bs : Bytes = part_of s (value p) in
       let n : length bs % 256 % 256 ≡ length bs % 256 = omega arith in
       ap (λ (l : Answer Bytes). l ▸ value bs) (byte-first 1 1 (length bs % 256) (omega arith)) ∙ rw (n, e)
 
-  pub part_none : (w : ℕ) {a : PlaceAnswer} {n : ℕ} → a ≡ place.Refused n → value (0 ∷ []) ≡ value (opt_part w (found (bytes_in s (told_place a))))
+  pub part_none : (w : ℕ) {a : Result Place Refusal} {e : Refusal} → a ≡ Err e → value (0 ∷ []) ≡ value (opt_part w (found (bytes_in s (told a))))
   unfolding opt_part
-  part_none w {a} {n} e = rw e
+  part_none w h = rw h
 
   pub part-is : (w : ℕ) {a b : Answer Place} → a ≡ b → value (opt_part w (found (bytes_in s a))) ≡ value (opt_part w (found (bytes_in s b)))
   part-is w e = ap (λ (a : Answer Place). value (opt_part w (found (bytes_in s a)))) e
@@ -94,34 +77,34 @@ module _ (s : List ℕ) where
     name-is offset a e = rw e (ap value (part-name (found (bytes_in s (name_bytes s lib offset)))))
 
     -- by names that were looked up
-    module _ (t : Names) {x : I32Answer} where
-      pub in-by : {z : ℤ} {n : ℕ} → x ≡ i32.Value z → n ≡ of_z w32 z
-          → value (opt_part 1 (found (bytes_in s (name_in s lib t n)))) ≡ value (opt_part 1 (name_in_by s lib t (told_i32 x)))
+    module _ (t : Names) {x : Result ℤ Refusal} where
+      pub in-by : {z : ℤ} {n : ℕ} → x ≡ Ok z → n ≡ of_z w32 z
+          → value (opt_part 1 (found (bytes_in s (name_in s lib t n)))) ≡ value (opt_part 1 (name_in_by s lib t (told x)))
       unfolding name_in_by
       in-by {z} {n} e f = rw (e, f)
 
-      pub in-missing : {n : ℕ} → x ≡ i32.Refused n → value (0 ∷ []) ≡ value (opt_part 1 (name_in_by s lib t (told_i32 x)))
+      pub in-missing : {e : Refusal} → x ≡ Err e → value (0 ∷ []) ≡ value (opt_part 1 (name_in_by s lib t (told x)))
       unfolding name_in_by opt_part
-      in-missing {n} e = rw e
+      in-missing h = rw h
 
-    pub name-by : {x : I32Answer} {z : ℤ} {n : ℕ} → x ≡ i32.Value z → n ≡ of_z w32 z
-        → value (encode (opt name) (name_of s lib n)) ≡ value (encode (opt name) (name_by s lib (told_i32 x)))
+    pub name-by : {x : Result ℤ Refusal} {z : ℤ} {n : ℕ} → x ≡ Ok z → n ≡ of_z w32 z
+        → value (encode (opt name) (name_of s lib n)) ≡ value (encode (opt name) (name_by s lib (told x)))
     unfolding name_of name_by
     name-by {x} {z} {n} e f = rw (e, f)
 
-    pub name-missing : {x : I32Answer} {n : ℕ} → x ≡ i32.Refused n → value (0 ∷ []) ≡ value (encode (opt name) (name_by s lib (told_i32 x)))
+    pub name-missing : {x : Result ℤ Refusal} {e : Refusal} → x ≡ Err e → value (0 ∷ []) ≡ value (encode (opt name) (name_by s lib (told x)))
     unfolding name_by opt
-    name-missing {x} {n} e = rw e
+    name-missing h = rw h
 
 -- (the byte 1 and the identifier are put as one number)
-pub memid-is : {x : I32Answer} {z : ℤ} {n : ℕ} → x ≡ i32.Value z → n ≡ of_z w32 z
-    → value (le_bytes 5 (1 + 256 * n)) ≡ value (encode (opt u32) (memid_by (told_i32 x)))
+pub memid-is : {x : Result ℤ Refusal} {z : ℤ} {n : ℕ} → x ≡ Ok z → n ≡ of_z w32 z
+    → value (le_bytes 5 (1 + 256 * n)) ≡ value (encode (opt u32) (memid_by (told x)))
 unfolding memid_by opt
 memid-is {x} {z} {n} e f = byte-first 4 1 n (omega arith) ∙ rw (e, f)
 
-pub memid-missing : {x : I32Answer} {n : ℕ} → x ≡ i32.Refused n → value (0 ∷ []) ≡ value (encode (opt u32) (memid_by (told_i32 x)))
+pub memid-missing : {x : Result ℤ Refusal} {e : Refusal} → x ≡ Err e → value (0 ∷ []) ≡ value (encode (opt u32) (memid_by (told x)))
 unfolding memid_by opt
-memid-missing {x} {n} e = rw e
+memid-missing h = rw h
 
 -- ---- references
 
@@ -172,29 +155,29 @@ module _ (s : List ℕ) (lib : TypeLib) where
       → value (le_bytes 4 x) ≡ value (own_bytes (own_is_guid flags) (own_of s lib (own_is_guid flags) x))
   own-word flags x h = ap value (own-false x (own_is_guid flags) (ne_eqb _ _ h))
 
-  pub file-some : (at : ℕ) {a : PlaceAnswer} {p : Place} {bs : Bytes} {offset : ℕ} → a ≡ place.Value p → bs ≡ part_of s (value p)
+  pub file-some : (at : ℕ) {a : Result Place Refusal} {p : Place} {bs : Bytes} {offset : ℕ} → a ≡ Ok p → bs ≡ part_of s (value p)
       → offset ≡ or_zero (read 4 s (at + 0))
       → value (1 ∷ [])
       ▸ (value (encode (opt guid) (guid_of s lib offset))
       ▸ (value (le_bytes 4 (or_zero (read 4 s (at + 4))))
       ▸ (value (le_bytes 4 (or_zero (read 4 s (at + 8))))
       ▸ (value (le_bytes 2 (length bs)) ▸ value bs))))
-      ≡ value (file_bytes s lib at (told_place a))
+      ≡ value (file_bytes s lib at (told a))
   unfolding file_bytes file opt
   file-some at {a} {p} {bs} {offset} e f g = rw (e, f, g)
 
-  pub file-none : (at : ℕ) {a : PlaceAnswer} {n : ℕ} → a ≡ place.Refused n → value (0 ∷ []) ≡ value (file_bytes s lib at (told_place a))
+  pub file-none : (at : ℕ) {a : Result Place Refusal} {e : Refusal} → a ≡ Err e → value (0 ∷ []) ≡ value (file_bytes s lib at (told a))
   unfolding file_bytes opt
-  file-none at {a} {n} e = rw e
+  file-none at h = rw h
 
-  pub file-named : {a : ImpFileAnswer} {f : ImpFile} (name : Answer Place) → a ≡ imp_file.Value f → name ≡ file_name_bytes s f.at f.len
+  pub file-named : {a : Result ImpFile Refusal} {f : ImpFile} (name : Answer Place) → a ≡ Ok f → name ≡ file_name_bytes s f.at f.len
       → value (file_bytes s lib f.at name) ≡ value (encode (opt file) (file_of s lib (told_imp_file a)))
   unfolding file_bytes file_of
   file-named {a} {f} name e g = rw (e, g)
 
-  pub file-missing : {a : ImpFileAnswer} {n : ℕ} → a ≡ imp_file.Refused n → value (0 ∷ []) ≡ value (encode (opt file) (file_of s lib (told_imp_file a)))
+  pub file-missing : {a : Result ImpFile Refusal} {e : Refusal} → a ≡ Err e → value (0 ∷ []) ≡ value (encode (opt file) (file_of s lib (told_imp_file a)))
   unfolding file_of opt
-  file-missing {a} {n} e = rw e
+  file-missing h = rw h
 
   pub import-is : (b at : ℕ) (imp : Answer Place) {flags word : ℕ} → flags ≡ or_zero (read 4 s (at + 0)) → word ≡ or_zero (read 4 s (at + 8))
       → value (2 ∷ [])
@@ -215,18 +198,18 @@ module _ (s : List ℕ) (lib : TypeLib) where
   resolved-external b r {p} {imp} e = rw e
 
   -- an hreftype that has one of its low two bits set
-  module _ (h : ℕ) {a : ResolvedAnswer} (k : told_resolved a ≡ href_resolved s lib h) (z : h % 4 ≡ 0 → ⊥) where
-    pub reference-some : {b : ℕ} {r : ResolvedHreftype} → b ≡ h / 2 ^ 24 % 2 ^ 1 → a ≡ resolved.Value r
+  module _ (h : ℕ) {a : Result ResolvedHreftype Refusal} (k : told_resolved a ≡ href_resolved s lib h) (z : h % 4 ≡ 0 → ⊥) where
+    pub reference-some : {b : ℕ} {r : ResolvedHreftype} → b ≡ h / 2 ^ 24 % 2 ^ 1 → a ≡ Ok r
         → value (reference_bytes lib (reference_from s lib b (value (told_hreftype r)))) ≡ emitted lib (reference_of s lib h)
     unfolding reference_bytes
     reference-some {b} {r} g l =
         let m : value (told_hreftype r) ≡ href_resolved s lib h = sym (ap told_resolved l) ∙ k in
         rw (g, m) (ap (emitted lib) (as-resolved s lib h (not-import z)))
 
-    pub reference-none : {m : ℕ} → a ≡ resolved.Refused m → value (0 ∷ []) ≡ emitted lib (reference_of s lib h)
+    pub reference-none : {e : Refusal} → a ≡ Err e → value (0 ∷ []) ≡ emitted lib (reference_of s lib h)
     unfolding reference_from reference
-    reference-none {m} l =
-        let q : refused m ≡ href_resolved s lib h = sym (ap told_resolved l) ∙ k in
+    reference-none {e = m} l =
+        let q : refused (refusal_number m) ≡ href_resolved s lib h = sym (ap told_resolved l) ∙ k in
         ap (λ (x : Answer Resolved). emitted lib (reference_from s lib (bits_of 24 1 h) x)) q ∙ ap (emitted lib) (as-resolved s lib h (not-import z))
 
 -- ---- references in this file

@@ -1,17 +1,7 @@
 -- A tree is its head, and then the tree under it. Assumes nothing.
+use Rattle.std.proofs.Common.{Option, Some, None, ◌≡◌, refl, sym, ap, ◌∙◌, Bool, true, false, cond, List, [], ◌∷◌, ◌++◌, append-nil, ℕ, zero, suc, ◌+◌, ◌-◌, ◌*◌, ◌≤◌, ◌<◌, arith, ltb, length, ltb-true, ltb-false, w32, Fits, to_z, of_z}
+use Rattle.std.proofs.lemmas.Int.{of_z-to_z}
 use Rattle.typelib.specs.Header.{type_count}
-use mathlib.Core.Path.{◌≡◌, refl, sym, ap, ◌∙◌}
-use mathlib.Core.Bool.{Bool, true, false, cond}
-use mathlib.Core.Option.{Option, some, none}
-use mathlib.Core.List.{List, [], ◌∷◌, ◌++◌, append-nil}
-use Prim.Native.Nat.{ℕ, zero, suc, ◌+◌, ◌-◌, ◌≤◌, ◌<◌}
-use native.Mathlib.Omega.{arith}
-use lib.Dec.{ltb}
-use lib.ListN.{length}
-use borrow.Author.Tests.{ltb-true, ltb-false}
-use mir.Syntax.{w32}
-use mir.Val.{Fits, to_z, of_z}
-use mir.ValLaws.{of_z-to_z}
 use Rattle.util.specs.Read.{read, or_zero}
 use Rattle.records.specs.declared.answer.Place.{Place}
 use Rattle.records.specs.declared.types.TypeDescription.{TypeDescription}
@@ -27,16 +17,13 @@ use Rattle.typelib.specs.DescriptorLaws.{field-base}
 use Rattle.description.specs.Format.{encode, le_bytes, joined}
 use Rattle.description.specs.Description.{Bytes, Dimension, Tree}
 use Rattle.description.specs.Description.Tree.{pointer, safe_array, c_array}
-use Rattle.description.specs.Sheet.{edition-one, dimension, level, nested, tree}
-use Rattle.description.specs.Sheet.{reference as referred}
+use Rattle.description.specs.Sheet.{edition-one, dimension, level, nested, tree, reference as referred}
 use Rattle.describe.specs.Values.{field_of}
 use Rattle.describe.specs.References.{reference_of}
 use Rattle.describe.specs.Trees.{dimensions_at, dimensions_of, tree_from, nested_of, tree_of}
 use Rattle.emit.specs.Emit.{◌▸◌, Put, At, past, put, advance, Emitted}
 use Rattle.emit.specs.Laws.{join, skip, put-at, refused-stays}
-use Rattle.sheet_trees.specs.declared.trees.Inner.{Inner}
-use Rattle.sheet_trees.specs.declared.trees.Inner.TheVariants as inner
-use Rattle.sheet_trees.specs.Parts.{dimensions_bytes, array_bytes, array_of, head_bytes, base_bytes, inline_bytes, inner_of, told_inner, Levelled}
+use Rattle.sheet_trees.specs.Parts.{dimensions_bytes, array_bytes, array_of, head_bytes, base_bytes, inline_bytes, inner_of, Levelled}
 
 -- ---- dimensions
 
@@ -45,23 +32,27 @@ unfolding dimensions_at
 dimensions-length s at zero = refl
 dimensions-length s at (suc n) = ap suc (dimensions-length s (at + 8) n)
 
-pub dimensions-none : (s : List ℕ) (at n : ℕ) → n ≤ 0 → value (dimensions_bytes s at n) ≡ value []
-unfolding dimensions_bytes dimensions_at
-dimensions-none s at zero h = refl
-dimensions-none s at (suc n) h = absurd (omega arith)
-
-pub dimensions-more : (s : List ℕ) (at offset n : ℕ) → 0 < n
-    → value (dimensions_bytes s (at + offset) n)
-    ≡ (value (le_bytes 4 (or_zero (read 4 s (at + offset)))) ▸ value (le_bytes 4 (or_zero (read 4 s (at + (offset + 4))))))
-    ▸ value (dimensions_bytes s (at + (offset + 8)) (n - 1))
+-- those behind the first k of n: the next of them, and the others
+dimensions-more : (s : List ℕ) (at n : ℕ)
+    → value (dimensions_bytes s at (suc n))
+    ≡ (value (le_bytes 4 (or_zero (read 4 s (at + 0)))) ▸ value (le_bytes 4 (or_zero (read 4 s (at + 4))))) ▸ value (dimensions_bytes s (at + 8) n)
 unfolding dimensions_bytes dimensions_at dimension
-dimensions-more s at offset zero h = absurd (omega arith)
-dimensions-more s at offset (suc n) h =
-    let e : suc n - 1 ≡ n = omega arith in
-    let f : at + offset + 0 ≡ at + offset = omega arith in
-    let g : at + offset + 4 ≡ at + (offset + 4) = omega arith in
-    let k : at + offset + 8 ≡ at + (offset + 8) = omega arith in
-    rw (e, f, g, k)
+dimensions-more s at n = refl
+
+pub dimensions-turn : (s : List ℕ) (at k n : ℕ) → k < n
+    → value (dimensions_bytes s (at + (8 + 8 * k)) (n - k))
+    ≡ (value (le_bytes 4 (or_zero (read 4 s (at + (8 + 8 * k))))) ▸ value (le_bytes 4 (or_zero (read 4 s (at + (8 + 8 * k + 4))))))
+    ▸ value (dimensions_bytes s (at + (8 + 8 * (k + 1))) (n - (k + 1)))
+dimensions-turn s at k n h =
+    let e : n - k ≡ suc (n - (k + 1)) = omega (arith, h) in
+    let f : at + (8 + 8 * k) + 0 ≡ at + (8 + 8 * k) = omega arith in
+    let g : at + (8 + 8 * k) + 4 ≡ at + (8 + 8 * k + 4) = omega arith in
+    let j : at + (8 + 8 * k) + 8 ≡ at + (8 + 8 * (k + 1)) = omega arith in
+    rw e (rw (f, g, j) at (dimensions-more s (at + (8 + 8 * k)) (n - (k + 1))))
+
+pub dimensions-none : (s : List ℕ) (at k n : ℕ) → n ≤ k → value (dimensions_bytes s at (n - k)) ≡ value []
+unfolding dimensions_bytes dimensions_at
+dimensions-none s at k n h = let e : n - k ≡ 0 = omega (arith, h) in rw e
 
 last-place : (n : ℕ) → past ≡ advance past n
 unfolding advance
@@ -92,8 +83,8 @@ module _ (s : List ℕ) (lib : TypeLib) where
   bytes k = map (encode (nested edition-one (type_count lib) k))
 
   abbrev rest : ℕ → (ℕ → Answer Tree) → Option ℕ → Answer Bytes
-  rest k below none = value []
-  rest k below (some field) = bytes k (below field)
+  rest k below None = value []
+  rest k below (Some field) = bytes k (below field)
 
   wrapped : (k : ℕ) (w : Tree → Tree) (head : Bytes)
       → ((t : Tree) → encode (nested edition-one (type_count lib) (suc k)) (w t) ≡ head ++ encode (nested edition-one (type_count lib) k) t)
@@ -134,17 +125,17 @@ module _ (s : List ℕ) (lib : TypeLib) where
           by-levels zero p = absurd (p refl)
           by-levels (suc m) p = let f : suc m - 1 ≡ m = omega arith in rw (f, ← e) (laid m (nested_of s lib m) a)
 
-      pub leaf-laid : {i : Inner} {t u : Put} {o o' : List ℕ} → told_inner i ≡ inner_of s a → i ≡ inner.Nothing
+      pub leaf-laid : {i : Option ℕ} {t u : Put} {o o' : List ℕ} → i ≡ inner_of s a → i ≡ None
           → Emitted (value (head_bytes s lib a)) t o u o' → Emitted (bytes n (nested_of s lib n field)) t o u o'
       leaf-laid {i} {t} {u} {o} {o'} f g h =
-          let q : none ≡ inner_of s a = sym (ap told_inner g) ∙ f in
+          let q : None ≡ inner_of s a = sym g ∙ f in
           rw (step, ← q) (join h (skip u o'))
 
-      pub branch-laid : {i : Inner} {t u r : Put} {o o' o'' : List ℕ} {below : ℕ} → told_inner i ≡ inner_of s a → i ≡ inner.Field below
+      pub branch-laid : {i : Option ℕ} {t u r : Put} {o o' o'' : List ℕ} {below : ℕ} → i ≡ inner_of s a → i ≡ Some below
           → Emitted (value (head_bytes s lib a)) t o u o' → Emitted (bytes (n - 1) (nested_of s lib (n - 1) below)) u o' r o''
           → Emitted (bytes n (nested_of s lib n field)) t o r o''
       branch-laid {i} {t} {u} {r} {o} {o'} {o''} {below} f g h k =
-          let q : some below ≡ inner_of s a = sym (ap told_inner g) ∙ f in
+          let q : Some below ≡ inner_of s a = sym g ∙ f in
           rw (step, ← q) (join h k)
 
   pub whole-tree : (field : ℕ) → bytes 32 (tree_of s lib field) ≡ map (encode (tree edition-one (type_count lib))) (tree_of s lib field)
@@ -156,7 +147,7 @@ module _ (s : List ℕ) (lib : TypeLib) where
       by_answer (refused n) = refl
 
   module _ (field : ℕ) where
-    headed : {a : Answer TypeDescription} → a ≡ lent s (type_description s lib field) → inner_of s a ≡ none
+    headed : {a : Answer TypeDescription} → a ≡ lent s (type_description s lib field) → inner_of s a ≡ None
         → value (head_bytes s lib a ++ []) ≡ map (encode (tree edition-one (type_count lib))) (tree_of s lib field)
     headed {a} e f = sym (step 32 field (λ z. omega (arith, z)) e ∙ ap (λ (i : Option ℕ). value (head_bytes s lib a) ▸ rest 31 (nested_of s lib 31) i) f) ∙ whole-tree field
 
@@ -188,28 +179,28 @@ module _ (s : List ℕ) (lib : TypeLib) {t u : Put} {o o' : List ℕ} {i : Optio
   pub level-as : {a b : Answer TypeDescription} → a ≡ b → Levelled s lib a t o u o' i → Levelled s lib b t o u o' i
   level-as e l = rw (← e) l
 
-  pub level-nothing : (n : ℕ) → Emitted (value (0 ∷ [])) t o u o' × (i ≡ none) → Levelled s lib (refused n) t o u o' i
+  pub level-nothing : (n : ℕ) → Emitted (value (0 ∷ [])) t o u o' × (i ≡ None) → Levelled s lib (refused n) t o u o' i
   unfolding head_bytes inner_of
   level-nothing n l = l
 
-  pub level-base : (code : ℕ) → Emitted (value (1 ∷ le_bytes 2 code)) t o u o' × (i ≡ none) → Levelled s lib (value (type.Base code)) t o u o' i
+  pub level-base : (code : ℕ) → Emitted (value (1 ∷ le_bytes 2 code)) t o u o' × (i ≡ None) → Levelled s lib (value (type.Base code)) t o u o' i
   unfolding head_bytes inner_of
   level-base code l = l
 
-  pub level-array : (p : Place) → Emitted (value (array_bytes s p.at)) t o u o' × (i ≡ some (or_zero (read 4 s (p.at + 0)))) → Levelled s lib (array_of (value p)) t o u o' i
+  pub level-array : (p : Place) → Emitted (value (array_bytes s p.at)) t o u o' × (i ≡ Some (or_zero (read 4 s (p.at + 0)))) → Levelled s lib (array_of (value p)) t o u o' i
   unfolding head_bytes inner_of
   level-array p l = l
 
   module _ {second : ℕ} (fits : Fits w32 second) where
-    pub level-pointer : Emitted (value (2 ∷ [])) t o u o' × (i ≡ some second) → Levelled s lib (value (type.Pointer (to_z w32 second))) t o u o' i
+    pub level-pointer : Emitted (value (2 ∷ [])) t o u o' × (i ≡ Some second) → Levelled s lib (value (type.Pointer (to_z w32 second))) t o u o' i
     unfolding head_bytes inner_of
-    level-pointer l = (l.0, l.1 ∙ ap some (sym (of_z-to_z w32 second fits)))
+    level-pointer l = (l.0, l.1 ∙ ap Some (sym (of_z-to_z w32 second fits.fits)))
 
-    pub level-safe-array : Emitted (value (3 ∷ [])) t o u o' × (i ≡ some second) → Levelled s lib (value (type.SafeArray (to_z w32 second))) t o u o' i
+    pub level-safe-array : Emitted (value (3 ∷ [])) t o u o' × (i ≡ Some second) → Levelled s lib (value (type.SafeArray (to_z w32 second))) t o u o' i
     unfolding head_bytes inner_of
-    level-safe-array l = (l.0, l.1 ∙ ap some (sym (of_z-to_z w32 second fits)))
+    level-safe-array l = (l.0, l.1 ∙ ap Some (sym (of_z-to_z w32 second fits.fits)))
 
-    pub level-user : Emitted (value (5 ∷ encode (referred edition-one (type_count lib)) (reference_of s lib second))) t o u o' × (i ≡ none)
+    pub level-user : Emitted (value (5 ∷ encode (referred edition-one (type_count lib)) (reference_of s lib second))) t o u o' × (i ≡ None)
         → Levelled s lib (value (type.UserDefined (to_z w32 second))) t o u o' i
     unfolding head_bytes inner_of
-    level-user l = rw (of_z-to_z w32 second fits) l
+    level-user l = rw (of_z-to_z w32 second fits.fits) l

@@ -1,13 +1,13 @@
 -- What the emitters of this crate emit, each an answer: bytes, or the number of a refusal. Assumes nothing.
-use Rattle.std.specs.Prelude.{◌≡◌, List, ◌∷◌, ℕ, ℤ}
-use Rattle.std.proofs.Math.Option.{Option}
+use Rattle.std.specs.Prelude.{◌≡◌, List, ◌∷◌, ℕ, ℤ, Option}
 use Rattle.records.specs.declared.answer.Place.{Place}
 use Rattle.records.specs.declared.impfile.ImpFile.{ImpFile}
 use Rattle.records.specs.declared.impinfo.ImpInfo.{ImpInfo}
 use Rattle.records.specs.Answer.{Answer, value, map}
 use Rattle.records.specs.Record.{bits_of}
 use Rattle.typelib.specs.declared.TypeLib.{TypeLib}
-use Rattle.typelib.specs.declared.references.ImpFileAnswer.{ImpFileAnswer}
+use Rattle.std.specs.declared.result.Result.{Result}
+use Rattle.records.specs.declared.answer.Refusal.{Refusal}
 use Rattle.typelib.specs.declared.references.ResolvedHreftype.{ResolvedHreftype}
 use Rattle.typelib.specs.Header.{type_count}
 use Rattle.typelib.specs.Tables.{lent}
@@ -25,7 +25,7 @@ use Rattle.emit.specs.Emit.{Emitted, Emits, put}
 use Rattle.sheet_trees.specs.declared.names.Names.{Names}
 use Rattle.sheet_trees.specs.declared.trees.Level.{Level}
 use Rattle.sheet_trees.specs.Names.{Near, name_in, name_in_by}
-use Rattle.sheet_trees.specs.Parts.{opt_part, reference_bytes, here_bytes, own_bytes, file_bytes, import_bytes, array_of, told_inner, Levelled}
+use Rattle.sheet_trees.specs.Parts.{opt_part, reference_bytes, here_bytes, own_bytes, file_bytes, import_bytes, array_of, Levelled}
 
 -- ---- numbers, names and GUIDs that may be missing
 
@@ -76,13 +76,13 @@ module _ (s : List ℕ) (lib : TypeLib) where
   abbrev pub resolved_emitted : ℕ → ResolvedHreftype → Answer Bytes
   resolved_emitted bit r = value (reference_bytes lib (reference_from s lib bit (value (told_hreftype r))))
 
-  abbrev pub import_emitted : ℕ → ImpInfo → ImpFileAnswer → Answer Bytes
+  abbrev pub import_emitted : ℕ → ImpInfo → Result ImpFile Refusal → Answer Bytes
   import_emitted bit info f = value (import_bytes (import_of s lib bit info.at (told_imp_file f)))
 
   abbrev pub own_emitted : ℕ → ℕ → Answer Bytes
   own_emitted flags word = value (own_bytes (own_is_guid flags) (own_of s lib (own_is_guid flags) word))
 
-  abbrev pub opt_file_emitted : ImpFileAnswer → Answer Bytes
+  abbrev pub opt_file_emitted : Result ImpFile Refusal → Answer Bytes
   opt_file_emitted f = value (encode (opt file) (file_of s lib (told_imp_file f)))
 
   -- an import file whose name is at a place
@@ -103,15 +103,15 @@ module _ (s : List ℕ) (lib : TypeLib) where
 
   -- one description of a tree, by a type field, by the words of a type descriptor, or by the offset of an array descriptor
   abbrev pub FieldPut : ℕ → ℕ → List ℕ → Level → List ℕ → Type 0
-  FieldPut field to o r o' = Levelled s lib (lent s (type_description s lib field)) (put to) o (put r.to) o' (told_inner r.inner)
+  FieldPut field to o r o' = Levelled s lib (lent s (type_description s lib field)) (put to) o (put r.to) o' r.inner
 
   abbrev pub DescriptorPut : ℕ → ℕ → ℕ → List ℕ → Level → List ℕ → Type 0
   DescriptorPut first second to o r o' =
-      Levelled s lib (description_of s lib (bits_of 0 12 first) second) (put to) o (put r.to) o' (told_inner r.inner)
+      Levelled s lib (description_of s lib (bits_of 0 12 first) second) (put to) o (put r.to) o' r.inner
 
   abbrev pub ArrayPut : ℕ → ℕ → List ℕ → Level → List ℕ → Type 0
-  ArrayPut offset to o r o' = Levelled s lib (array_of (array_desc_at s lib offset)) (put to) o (put r.to) o' (told_inner r.inner)
+  ArrayPut offset to o r o' = Levelled s lib (array_of (array_desc_at s lib offset)) (put to) o (put r.to) o' r.inner
 
 -- a description by its bytes and the type field under it
 abbrev pub HeadPut : Bytes → Option ℕ → ℕ → List ℕ → Level → List ℕ → Type 0
-HeadPut bs below to o r o' = Emitted (value bs) (put to) o (put r.to) o' × (told_inner r.inner ≡ below)
+HeadPut bs below to o r o' = Emitted (value bs) (put to) o (put r.to) o' × (r.inner ≡ below)

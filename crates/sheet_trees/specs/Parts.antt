@@ -1,7 +1,6 @@
 -- The bytes of the parts that a record's numbers name, as the emitters write them. `PartLaws` and `TreeLaws` (of proofs/) prove that
 -- they are those of the formats of `description`. Assumes nothing.
-use Rattle.std.specs.Prelude.{◌≡◌, Bool, List, [], ◌∷◌, ◌++◌, ℕ, ◌+◌, length}
-use Rattle.std.proofs.Math.Option.{Option, some, none}
+use Rattle.std.specs.Prelude.{◌≡◌, Bool, List, [], ◌∷◌, ◌++◌, ℕ, ◌+◌, length, Option, Some, None}
 use Rattle.std.specs.Int.{w32}
 use Rattle.std.proofs.Common.{of_z}
 use Rattle.records.specs.declared.answer.Place.{Place}
@@ -22,13 +21,11 @@ use Rattle.describe.specs.Values.{found, bytes_in, field_of}
 use Rattle.describe.specs.References.{file_with, reference_of}
 use Rattle.describe.specs.Trees.{dimensions_at}
 use Rattle.emit.specs.Emit.{Put, Emitted}
-use Rattle.sheet_trees.specs.declared.trees.Inner.{Inner}
-use Rattle.sheet_trees.specs.declared.trees.Inner.TheVariants as inner
 
 -- byte 0, or byte 1 and the bytes behind their count in w bytes
 unfoldable pub opt_part : ℕ → Option Bytes → Bytes
-opt_part w none = 0 ∷ []
-opt_part w (some bs) = 1 ∷ (le_bytes w (length bs) ++ bs)
+opt_part w None = 0 ∷ []
+opt_part w (Some bs) = 1 ∷ (le_bytes w (length bs) ++ bs)
 
 -- ---- references
 
@@ -93,20 +90,16 @@ head_bytes s lib (refused n) = 0 ∷ []
 
 -- the type field of the tree under it
 unfoldable pub inner_of : List ℕ → Answer TypeDescription → Option ℕ
-inner_of s (value (type.Base vt)) = none
-inner_of s (value (type.Pointer x)) = some (of_z w32 x)
-inner_of s (value (type.SafeArray x)) = some (of_z w32 x)
-inner_of s (value (type.CArray d)) = some (field_of array_desc "element type" s d.at)
-inner_of s (value (type.UserDefined x)) = none
-inner_of s (refused n) = none
+inner_of s (value (type.Base vt)) = None
+inner_of s (value (type.Pointer x)) = Some (of_z w32 x)
+inner_of s (value (type.SafeArray x)) = Some (of_z w32 x)
+inner_of s (value (type.CArray d)) = Some (field_of array_desc "element type" s d.at)
+inner_of s (value (type.UserDefined x)) = None
+inner_of s (refused n) = None
 
 -- a C array whose descriptor was found
 abbrev pub array_of : Answer Place → Answer TypeDescription
 array_of = map (λ p. type.CArray (record { at = p.at; len = p.len }))
-
-abbrev pub told_inner : Inner → Option ℕ
-told_inner (inner.Field x) = some x
-told_inner inner.Nothing = none
 
 -- one description of a tree: its bytes are emitted, and i is what is under it
 abbrev pub Levelled : List ℕ → TypeLib → Answer TypeDescription → Put → List ℕ → Put → List ℕ → Option ℕ → Type 0

@@ -3,7 +3,7 @@ ghost use Rattle.std.specs.Prelude.{◌≡◌, ◌%◌};
 ghost use Rattle.std.specs.Int.{w32};
 ghost use Rattle.std.proofs.Common.{of_z};
 ghost use Rattle.records.specs.Answer.{value};
-ghost use Rattle.records.specs.Told.{told_place};
+ghost use Rattle.records.specs.Told.{told};
 ghost use Rattle.describe.specs.References.{misplaced_offset};
 ghost use Rattle.sheet_trees.specs.Parts.{internal_bytes, misplaced_bytes};
 ghost use Rattle.emit.specs.Emit.{Emits};
@@ -12,32 +12,33 @@ ghost use Rattle.typelib.specs.Header.{library};
 ghost use Rattle.typelib.specs.Told.{told_offset};
 
 use crate::values;
-use records::answer::PlaceAnswer;
+use records::answer::{Place, Refusal};
 use records::field::LIMIT;
 use records::impfile::ImpFile;
 use records::impinfo::ImpInfo;
-use typelib::references::{ImpFileAnswer, ResolvedAnswer, ResolvedHreftype};
-use typelib::typeinfos::OffsetAnswer;
+use typelib::references::ResolvedHreftype;
 use typelib::{Numbers, TypeInfoIndex, TypeInfoOffset, tables};
 use util::NEGATIVE;
 
 // The offset of a reference that hits no typeinfo: one that is not negative, has its low two bits clear and is no multiple of 100 once the
 // bit 0x01000000 is cleared (document 02, §4). The two resolvers do not ask for it, and divide by 100.
-pub fn misplaced_offset(hreftype: i32) -> OffsetAnswer
+// (Whether an hreftype is negative is one comparison: what follows is a refusal here, and the byte 0 in an emitter. The contract tells an offset by
+// its number, as that of `tables::offset_word` does.)
+pub fn misplaced_offset(hreftype: i32) -> Result<TypeInfoOffset, Refusal>
     ensures { told_offset result ≡ misplaced_offset (of_z w32 hreftype) }
 {
-    let href = util::unsigned32(hreftype);
+    let href = hreftype.cast_unsigned();
     if NEGATIVE <= href {
-        return OffsetAnswer::Refused(9);
+        return Err(Refusal::NothingThere);
     }
     if util::bits(href, 0, 2) != 0 {
-        return OffsetAnswer::Refused(9);
+        return Err(Refusal::NothingThere);
     }
     let offset = typelib::references::without_dispatch(href);
     if offset % 100 == 0 {
-        return OffsetAnswer::Refused(9);
+        return Err(Refusal::NothingThere);
     }
-    OffsetAnswer::Value(TypeInfoOffset(offset))
+    Ok(TypeInfoOffset(offset))
 }
 
 // The reference of an hreftype. (Most are to this library's own typeinfos, and need no look at a table. `put_elsewhere` has a second
@@ -52,15 +53,16 @@ pub fn put_reference(s: &[u8], lib: &Numbers, href: u32, out: &mut [u8], to: usi
     }
 }
 
-// The same of one to another library, as one is that has one of its low two bits set.
+// The same of one to another library, as one is that has one of its low two bits set. (It and the next promise what `put_reference` does, of their
+// part of all hreftypes: three functions, for speed.)
 pub(crate) fn put_elsewhere(s: &[u8], lib: &Numbers, href: u32, out: &mut [u8], to: usize) -> usize
     requires { href % 4 ≡ 0 → ⊥ }
     ensures { Emits (reference_emitted s.now (library lib.now) href) to out.old result out.new }
 {
     let bit = util::bits(href, 24, 1);
     match typelib::references::resolve_at(lib, &*s, href) {
-        ResolvedAnswer::Value(r) => put_resolved(&*s, lib, bit, r, out, to),
-        ResolvedAnswer::Refused(_) => emit::put_u8(out, to, 0),
+        Ok(r) => put_resolved(&*s, lib, bit, r, out, to),
+        Err(_) => emit::put_u8(out, to, 0),
     }
 }
 
@@ -145,12 +147,13 @@ fn put_misplaced(bit: u32, offset: TypeInfoOffset, out: &mut [u8], to: usize) ->
     emit::put_u32(out, t, offset.0)
 }
 
+// (This and `put_file` are rows of emitters, each with fields of its own.)
 fn put_import(
     s: &[u8],
     lib: &Numbers,
     bit: u32,
     info: ImpInfo,
-    imp_file: ImpFileAnswer,
+    imp_file: Result<ImpFile, Refusal>,
     out: &mut [u8],
     to: usize,
 ) -> usize
@@ -164,7 +167,7 @@ fn put_import(
     put_opt_file(&*s, lib, imp_file, out, t)
 }
 
-// The word at 0x08 of an import record: a GUID's offset where its flags have 0x10000.
+// The word at 0x08 of an import record: a GUID's offset where its flags have 0x10000. (As its definition asks: `util::bits(flags, 16, 1) == 1` is no plainer.)
 fn put_own(s: &[u8], lib: &Numbers, flags: u32, word: u32, out: &mut [u8], to: usize) -> usize
     ensures { Emits (own_emitted s.now (library lib.now) flags word) to out.old result out.new }
 {
@@ -178,15 +181,15 @@ fn put_own(s: &[u8], lib: &Numbers, flags: u32, word: u32, out: &mut [u8], to: u
 fn put_opt_file(
     s: &[u8],
     lib: &Numbers,
-    imp_file: ImpFileAnswer,
+    imp_file: Result<ImpFile, Refusal>,
     out: &mut [u8],
     to: usize,
 ) -> usize
     ensures { Emits (opt_file_emitted s.now (library lib.now) imp_file) to out.old result out.new }
 {
     match imp_file {
-        ImpFileAnswer::Value(f) => put_file(&*s, lib, f, f.filename_bytes(&*s), out, to),
-        ImpFileAnswer::Refused(_) => emit::put_u8(out, to, 0),
+        Ok(f) => put_file(&*s, lib, f, f.filename_bytes(&*s), out, to),
+        Err(_) => emit::put_u8(out, to, 0),
     }
 }
 
@@ -194,16 +197,16 @@ fn put_file(
     s: &[u8],
     lib: &Numbers,
     f: ImpFile,
-    name: PlaceAnswer,
+    name: Result<Place, Refusal>,
     out: &mut [u8],
     to: usize,
 ) -> usize
-    ensures { Emits (file_emitted s.now (library lib.now) f (told_place name)) to out.old result out.new }
+    ensures { Emits (file_emitted s.now (library lib.now) f (told name)) to out.old result out.new }
 {
-    let PlaceAnswer::Value(place) = name else {
+    let Ok(place) = name else {
         return emit::put_u8(out, to, 0);
     };
-    let bytes = records::answer::part(&*s, PlaceAnswer::Value(place));
+    let bytes = records::answer::part(&*s, Ok(place));
     let t = emit::put_u8(out, to, 1);
     let t = values::put_opt_guid(&*s, lib, emit::word_at(&*s, f.at, 0x00), out, t);
     let t = emit::copy_u32(&*s, f.at, 0x04, out, t);

@@ -1,6 +1,5 @@
 // Trees.
-ghost use Rattle.std.specs.Prelude.{[], ◌∷◌, ◌+◌};
-ghost use Rattle.std.proofs.Math.Option.{some, none};
+ghost use Rattle.std.specs.Prelude.{[], ◌∷◌, ◌+◌, Some, None};
 ghost use Rattle.records.specs.Answer.{value};
 ghost use Rattle.description.specs.Format.{le_bytes};
 ghost use Rattle.sheet_trees.specs.Parts.{array_bytes, dimensions_bytes, inline_bytes};
@@ -9,27 +8,20 @@ ghost use Rattle.sheet_trees.specs.Emitted.{ArrayPut, DescriptorPut, FieldPut, H
 ghost use Rattle.typelib.specs.Header.{library};
 
 use crate::references;
+use records::answer::Refusal;
 use records::arraydesc::ArrayDesc;
 use records::field::LIMIT;
-use typelib::descriptors::{ArrayDescAnswer, PairAnswer};
 use typelib::{Numbers, descriptors};
 use util::NEGATIVE;
 
-// The most descriptions that a tree nests.
+// The most descriptions that a tree nests. (`sheet_sizes`, which measures, has it for itself: one line, which a public name would not make plainer.)
 const LEVELS: usize = 32;
 
-// The type field under a description, if there is one.
-#[derive(Clone, Copy)]
-pub enum Inner {
-    Field(u32),
-    Nothing,
-}
-
-// Where a description ends, and what is under it.
+// Where a description ends, and the type field under it, if there is one.
 #[derive(Clone, Copy)]
 pub struct Level {
     pub to: usize,
-    pub inner: Inner,
+    pub inner: Option<u32>,
 }
 
 // The tree of a type field. (Most are negative, and need nothing but their own number.)
@@ -43,7 +35,7 @@ pub fn put_tree(s: &[u8], lib: &Numbers, field: u32, out: &mut [u8], to: usize) 
     }
 }
 
-// The same, of at most `levels` descriptions; refusal 11 where there are more.
+// The same, of at most `levels` descriptions; refusal 11 where there are more. (By recursion, as a tree is read by the rule of the project.)
 fn put_nested(
     s: &[u8],
     lib: &Numbers,
@@ -55,13 +47,12 @@ fn put_nested(
     ensures { Emits (nested_emitted s.now (library lib.now) levels field) to out.old result out.new }
 {
     if levels == 0 {
-        return emit::put_refusal(to, 11);
+        return emit::put_refusal(to, Refusal::TooDeep);
     }
     let level = put_level(&*s, lib, field, out, to);
-    let inner = level.inner;
-    match inner {
-        Inner::Field(below) => put_nested(&*s, lib, below, levels - 1, out, level.to),
-        Inner::Nothing => level.to,
+    match level.inner {
+        Some(below) => put_nested(&*s, lib, below, levels - 1, out, level.to),
+        None => level.to,
     }
 }
 
@@ -87,18 +78,19 @@ fn put_level(s: &[u8], lib: &Numbers, field: u32, out: &mut [u8], to: usize) -> 
         return put_leaf(util::bits(field, 0, 12) as u16, out, to);
     }
     match descriptors::type_desc_at(lib, &*s, field) {
-        PairAnswer::Value(words) => {
+        Ok(words) => {
             // most are pointers, and need no call
             if util::bits(words.first, 0, 12) == 26 {
                 return put_over(2, words.second, out, to);
             }
             put_descriptor(&*s, lib, words.first, words.second, out, to)
         }
-        PairAnswer::Refused(_) => put_nothing(out, to),
+        Err(_) => put_nothing(out, to),
     }
 }
 
 // The description that the two words of a type descriptor are.
+// (A code is any number of the file: those that mean something have an arm.)
 pub fn put_descriptor(
     s: &[u8],
     lib: &Numbers,
@@ -119,31 +111,31 @@ pub fn put_descriptor(
     }
 }
 
-// A pointer or a safe array, by its code byte: the tree of `below` stands under it.
+// A pointer or a safe array, by its code byte: the tree of `below` stands under it. (The byte is put as it is, and so is a code of the file below.)
 fn put_over(mark: u8, below: u32, out: &mut [u8], to: usize) -> Level
-    ensures { HeadPut (mark ∷ []) (some below) to out.old result out.new }
+    ensures { HeadPut (mark ∷ []) (Some below) to out.old result out.new }
 {
     Level {
         to: emit::put_u8(out, to, mark),
-        inner: Inner::Field(below),
+        inner: Some(below),
     }
 }
 
 fn put_nothing(out: &mut [u8], to: usize) -> Level
-    ensures { HeadPut (0 ∷ []) none to out.old result out.new }
+    ensures { HeadPut (0 ∷ []) None to out.old result out.new }
 {
     Level {
         to: emit::put_u8(out, to, 0),
-        inner: Inner::Nothing,
+        inner: None,
     }
 }
 
 fn put_leaf(vt: u16, out: &mut [u8], to: usize) -> Level
-    ensures { HeadPut (1 ∷ le_bytes 2 vt) none to out.old result out.new }
+    ensures { HeadPut (1 ∷ le_bytes 2 vt) None to out.old result out.new }
 {
     Level {
         to: put_base(vt, out, to),
-        inner: Inner::Nothing,
+        inner: None,
     }
 }
 
@@ -155,7 +147,7 @@ fn put_base(vt: u16, out: &mut [u8], to: usize) -> usize
 
 // A reference. (The test of `put_reference` stands here again, so that `put_elsewhere` has two callers.)
 fn put_user(s: &[u8], lib: &Numbers, href: u32, out: &mut [u8], to: usize) -> Level
-    ensures { HeadPut (user_bytes s.now (library lib.now) href) none to out.old result out.new }
+    ensures { HeadPut (user_bytes s.now (library lib.now) href) None to out.old result out.new }
 {
     let t = emit::put_u8(out, to, 5);
     let end = if util::bits(href, 0, 2) == 0 {
@@ -165,7 +157,7 @@ fn put_user(s: &[u8], lib: &Numbers, href: u32, out: &mut [u8], to: usize) -> Le
     };
     Level {
         to: end,
-        inner: Inner::Nothing,
+        inner: None,
     }
 }
 
@@ -174,11 +166,11 @@ fn put_array_at(s: &[u8], lib: &Numbers, offset: u32, out: &mut [u8], to: usize)
     ensures { ArrayPut s.now (library lib.now) offset to out.old result out.new }
 {
     match descriptors::array_desc_at(lib, &*s, offset) {
-        ArrayDescAnswer::Value(desc) => Level {
+        Ok(desc) => Level {
             to: put_array(&*s, desc, out, to),
-            inner: Inner::Field(emit::word_at(&*s, desc.at, 0x00)),
+            inner: Some(emit::word_at(&*s, desc.at, 0x00)),
         },
-        ArrayDescAnswer::Refused(_) => put_nothing(out, to),
+        Err(_) => put_nothing(out, to),
     }
 }
 
@@ -198,16 +190,13 @@ fn put_dimensions(s: &[u8], at: usize, count: u16, out: &mut [u8], to: usize) ->
     ensures { Emits (value (dimensions_bytes s.now (at + 8) count)) to out.old result out.new }
 {
     let mut t = to;
-    let mut offset: u32 = 8;
-    let mut left = count;
-    while 0 < left {
+    for k in 0..count as u32 {
         if emit::PAST <= t {
             return t;
         }
+        let offset = 8 + 8 * k;
         t = emit::copy_u32(&*s, at, offset, out, t);
         t = emit::copy_u32(&*s, at, offset + 4, out, t);
-        offset += 8;
-        left -= 1;
     }
     t
 }

@@ -1,4 +1,5 @@
 // A type of a sheet: its head and names, what it is based on, and its members.
+// (What an emitter takes stands apart: a struct of more than two numbers is handed on by way of memory, which made sheets slower.)
 
 #![tactic(auto)]
 
@@ -10,10 +11,10 @@ ghost use Rattle.typelib.specs.Header.{library};
 use records::typeinfo::TypeInfoEntry;
 use sheet_members::{functions, variables};
 use sheet_trees::values;
-use typelib::typeinfos::TypeInfoAnswer;
 use typelib::{Numbers, TypeInfoIndex, typeinfos};
 
 // Type `index` of the library; 6, 7 or 8 where there is none.
+// (`put_chain` of `sheet_bases` has this form alone: what is read and what is emitted are others, and closures for both would be longer.)
 pub fn put_type_of(
     s: &[u8],
     lib: &Numbers,
@@ -24,8 +25,8 @@ pub fn put_type_of(
     ensures { Emits (type_emitted s.now (library lib.now) index.0) to out.old result out.new }
 {
     match typeinfos::typeinfo_at(lib, &*s, index) {
-        TypeInfoAnswer::Value(ti) => put_type(&*s, lib, ti, out, to),
-        TypeInfoAnswer::Refused(n) => emit::put_refusal(to, n),
+        Ok(ti) => put_type(&*s, lib, ti, out, to),
+        Err(refusal) => emit::put_refusal(to, refusal),
     }
 }
 
@@ -40,7 +41,7 @@ fn put_type(s: &[u8], lib: &Numbers, ti: TypeInfoEntry, out: &mut [u8], to: usiz
     variables::put_variables(&*s, lib, ti, out, t)
 }
 
-// The kind, the flags and the version.
+// The kind, the flags and the version. (The kind is any number of the file, and is emitted as it is.)
 fn put_head(s: &[u8], at: usize, kind: u32, out: &mut [u8], to: usize) -> usize
     ensures { Emits (value (head_bytes s.now at kind)) to out.old result out.new }
 {

@@ -2,11 +2,10 @@
 use Rattle.std.proofs.Math.Path.{◌≡◌}
 use Rattle.std.specs.Prelude.{refl, Bool, true, false, List, ℕ, ◌+◌, ◌≤◌, ◌<◌, ltb, length}
 use Rattle.std.proofs.Common.{sym, ◌∙◌, ap, arith}
-use borrow.Author.Tests.{le-leb, lt-leb, le-ltb, lt-ltb}
+use borrow.Author.Tests.{lt-leb, le-ltb, le-leb, lt-ltb}
 use Rattle.util.specs.Read.{le, cond-elim}
 use Rattle.records.specs.declared.answer.Place.{Place}
 use Rattle.records.specs.Answer.{Answer, value, refused, map, bind}
-use Rattle.records.specs.AnswerLaws.{map-value}
 use Rattle.utf8.specs.Utf8.{utf8}
 use Rattle.records.specs.Counted.{imp_file_size, text_of}
 use Rattle.records.specs.Record.{limit, part_of}
@@ -18,21 +17,14 @@ use Rattle.typelib.specs.TableLaws.{lent_fits, in-table}
 use Rattle.typelib.specs.Tables.{lent, in_table}
 use Rattle.typelib.specs.TypeInfos.{typeinfo_of}
 use Rattle.cursors.specs.Cursors.{fixed_at}
-use Rattle.cursors.specs.Numbers.{ended, beside}
+use Rattle.cursors.specs.Numbers.{beside, ended}
 use Rattle.cursors.specs.CursorLaws.{fixed, fixed_out, lent-value, lent-bind, lent-refused}
 use Rattle.table_cursors.specs.Cursors.{NamesAt, imp_file_entry, typeinfo_next_from, typeinfo_next, typeinfo_step, entry_text, name_entry_from, name_entry}
+use Rattle.records.specs.AnswerLaws.{map-value}
 
 -- ---- typeinfos
 
 module _ (s : List ℕ) (lib : TypeLib) (c : TypeInfoCursor) where
-  pub typeinfos-long : limit < length s → ended 1 c ≡ typeinfo_step s lib c
-  unfolding typeinfo_next
-  typeinfos-long h = rw (lt-ltb limit (length s) h)
-
-  pub typeinfos-end : length s ≤ limit → type_count lib ≤ c.index.0 → ended 9 c ≡ typeinfo_step s lib c
-  unfolding typeinfo_next
-  typeinfos-end h k = rw (le-ltb limit (length s) h, le-leb (type_count lib) c.index.0 k)
-
   pub typeinfos-next : (a : Answer Place) → length s ≤ limit → c.index.0 < type_count lib → a ≡ typeinfo_of s lib c.index.0 → beside (λ d _. d) c.index.0 (typeinfo_next_from c a) ≡ typeinfo_step s lib c
   unfolding typeinfo_next
   typeinfos-next a h k e = rw (le-ltb limit (length s) h, lt-leb (type_count lib) c.index.0 k) (ap (λ (x : Answer Place). beside (λ d _. d) c.index.0 (typeinfo_next_from c x)) e)
@@ -42,10 +34,6 @@ module _ (s : List ℕ) (lib : TypeLib) (c : TypeInfoCursor) where
 pub entry_more : (s : List ℕ) (pos end : ℕ) (p : Place) → value p ≡ lent s (fixed_at s pos end 14) → lent s (fixed_at s pos end (imp_file_size (le 2 s (pos + 12)))) ≡ lent s (imp_file_entry s pos end)
 unfolding imp_file_entry
 entry_more s pos end p e = rw (← (lent-value s p (fixed_at s pos end 14) e).is)
-
-pub entry-none : (s : List ℕ) (pos end n : ℕ) → refused n ≡ lent s (fixed_at s pos end 14) → refused n ≡ lent s (imp_file_entry s pos end)
-unfolding imp_file_entry
-entry-none s pos end n e = lent-bind s (fixed_at s pos end 14) (λ _. fixed_at s pos end (imp_file_size (le 2 s (pos + 12)))) n e
 
 -- an entry lies inside the bytes, and is longer than nothing
 pub record Entry (s : List ℕ) (pos : ℕ) (p : Place) : Type 0 where
@@ -70,20 +58,7 @@ entry-inside s pos end p e =
 lent-inner : {A : Type 0} (s : List ℕ) (a r : Answer A) → length s ≤ limit → r ≡ lent s a → r ≡ a
 lent-inner s a r h e = e ∙ sym (lent_fits s a a h refl)
 
-module _ (s : List ℕ) (pos end n : ℕ) where
-  pub behind-value : (p : Place) → value p ≡ lent s (fixed_at s pos end (12 + n)) → value (record { at = pos + 12; len = n }) ≡ lent s (entry_text s pos end n)
-  behind-value p e =
-      let v = lent-value s p (fixed_at s pos end (12 + n)) e in
-      lent_fits s (entry_text s pos end n) _ v.few (map-value _ (fixed_at s pos end (12 + n)) p _ v.is refl)
-
-  pub behind-refused : (m : ℕ) → refused m ≡ lent s (fixed_at s pos end (12 + n)) → refused m ≡ lent s (entry_text s pos end n)
-  behind-refused m e = lent-refused s (fixed_at s pos end (12 + n)) (map (λ (_ : Place). record { at = pos + 12; len = n })) m refl e
-
 module _ (s : List ℕ) (c : NamesAt) where
-  pub name-before : c.pos < c.start → refused 9 ≡ name_entry s c
-  unfolding name_entry
-  name-before h = rw (lt-ltb c.pos c.start h)
-
   fixed-gone : length s ≤ c.pos → refused 9 ≡ fixed_at s c.pos c.end 12
   fixed-gone h = by (in_table s (record { at = 0; len = c.end }) (c.pos + 12)) refl
     where
@@ -97,11 +72,6 @@ module _ (s : List ℕ) (c : NamesAt) where
       cond-elim (λ (r : Answer NameEntry). refused 9 ≡ r) (ltb c.pos c.start) (refused 9) _
       (λ _. refl)
       (λ _. rw (← fixed-gone h))
-
-  pub name-none : (n : ℕ) → length s ≤ limit → c.start ≤ c.pos → refused n ≡ lent s (fixed_at s c.pos c.end 12) → refused n ≡ name_entry s c
-  unfolding name_entry
-  name-none n l h e =
-      rw (le-ltb c.pos c.start h, ← lent-inner s (fixed_at s c.pos c.end 12) (refused n) l e)
 
   pub name-some : (p : Place) (a : Answer NameEntry) → c.start ≤ c.pos → value p ≡ lent s (fixed_at s c.pos c.end 12) → a ≡ map (name_entry_from s c) (text_of s (entry_text s c.pos c.end (le 1 s (c.pos + 8)))) → a ≡ name_entry s c
   unfolding name_entry
@@ -167,3 +137,37 @@ module _ (s : List ℕ) (P : Place → Type 0) where
 pub name-behind : (s : List ℕ) (c : NamesAt) (e : NameEntry) → value e ≡ lent s (name_entry s c) → Behind s c.pos c.end e.text
 name-behind s c e =
     name-place s (Behind s c.pos c.end) c e (entry-text s c.pos c.end (le 1 s (c.pos + 8)))
+
+-- ---- the same by cases
+
+module _ (s : List ℕ) (lib : TypeLib) (c : TypeInfoCursor) where
+  pub typeinfos-long : limit < length s → ended 1 c ≡ typeinfo_step s lib c
+  unfolding typeinfo_next
+  typeinfos-long h = rw (lt-ltb limit (length s) h)
+
+  pub typeinfos-end : length s ≤ limit → type_count lib ≤ c.index.0 → ended 9 c ≡ typeinfo_step s lib c
+  unfolding typeinfo_next
+  typeinfos-end h k = rw (le-ltb limit (length s) h, le-leb (type_count lib) c.index.0 k)
+
+pub entry-none : (s : List ℕ) (pos end n : ℕ) → refused n ≡ lent s (fixed_at s pos end 14) → refused n ≡ lent s (imp_file_entry s pos end)
+unfolding imp_file_entry
+entry-none s pos end n e = lent-bind s (fixed_at s pos end 14) (λ _. fixed_at s pos end (imp_file_size (le 2 s (pos + 12)))) n e
+
+module _ (s : List ℕ) (pos end n : ℕ) where
+  pub behind-value : (p : Place) → value p ≡ lent s (fixed_at s pos end (12 + n)) → value (record { at = pos + 12; len = n }) ≡ lent s (entry_text s pos end n)
+  behind-value p e =
+      let v = lent-value s p (fixed_at s pos end (12 + n)) e in
+      lent_fits s (entry_text s pos end n) _ v.few (map-value _ (fixed_at s pos end (12 + n)) p _ v.is refl)
+
+  pub behind-refused : (m : ℕ) → refused m ≡ lent s (fixed_at s pos end (12 + n)) → refused m ≡ lent s (entry_text s pos end n)
+  behind-refused m e = lent-refused s (fixed_at s pos end (12 + n)) (map (λ (_ : Place). record { at = pos + 12; len = n })) m refl e
+
+module _ (s : List ℕ) (c : NamesAt) where
+  pub name-before : c.pos < c.start → refused 9 ≡ name_entry s c
+  unfolding name_entry
+  name-before h = rw (lt-ltb c.pos c.start h)
+
+  pub name-none : (n : ℕ) → length s ≤ limit → c.start ≤ c.pos → refused n ≡ lent s (fixed_at s c.pos c.end 12) → refused n ≡ name_entry s c
+  unfolding name_entry
+  name-none n l h e =
+      rw (le-ltb c.pos c.start h, ← lent-inner s (fixed_at s c.pos c.end 12) (refused n) l e)

@@ -1,75 +1,67 @@
 // The names of a typeinfo's members, looked up in the name table.
+// (A step is no `Result`, since its cursor comes back either way: so its refusal is handed on by an arm, and not by `?`.)
 ghost use Rattle.std.specs.Prelude.{◌≡◌, length};
-ghost use Rattle.records.specs.Told.{told_place};
+ghost use Rattle.records.specs.Told.{told};
 ghost use Rattle.table_cursors.specs.Members.{matching, behind, member_name};
 ghost use Rattle.table_cursors.specs.Told.{told_name_step};
 
 use crate::iterators;
-use crate::iterators::{NameCursor, NameStep};
-use records::answer::PlaceAnswer;
-use records::field::LIMIT;
-use typelib::typeinfos::OffsetAnswer;
+use crate::iterators::NameCursor;
+use cursors::iterators::Step;
+use records::answer::{Place, Refusal};
+use records::name::NameEntry;
 use typelib::{TypeInfoIndex, TypeInfoOffset, TypeLib, tables};
 
 // Name `k`, from 0, of the entries of a typeinfo, its own name left out. (The source builds the
 // list of them.)
-pub fn member_name(lib: TypeLib, s: &[u8], index: TypeInfoIndex, k: usize) -> PlaceAnswer
-    ensures { told_place result ≡ member_name s.now lib index.0 k }
+pub fn member_name(lib: TypeLib, s: &[u8], index: TypeInfoIndex, k: usize) -> Result<Place, Refusal>
+    ensures { told result ≡ member_name s.now lib index.0 k }
 {
-    if LIMIT < s.len() {
-        return PlaceAnswer::Refused(1);
-    }
-    match tables::offset_word(&lib.numbers, s, index) {
-        OffsetAnswer::Value(own) => match next_match(s, own, iterators::names_in(&lib.numbers)) {
-            NameStep::Record(_, _, c) => match_behind(s, own, k, next_match(s, own, c)),
-            NameStep::Refused(n, _) => PlaceAnswer::Refused(n),
-        },
-        OffsetAnswer::Refused(n) => PlaceAnswer::Refused(n),
+    cursors::iterators::is_lent(s)?;
+    let own = tables::offset_word(&lib.numbers, s, index)?;
+    match next_match(s, own, iterators::names_in(&lib.numbers)) {
+        Step::Record(_, _, c) => match_behind(s, own, k, next_match(s, own, c)),
+        Step::Refused(refusal, _) => Err(refusal),
     }
 }
 
 // The first entry from the cursor on whose hreftype is that offset.
-fn next_match(s: &[u8], own: TypeInfoOffset, from: NameCursor) -> NameStep
+fn next_match(s: &[u8], own: TypeInfoOffset, from: NameCursor) -> Step<NameEntry, NameCursor>
     ensures { told_name_step result ≡ matching (length s.now) s.now own.0 from }
 {
     let mut c = from;
-    let mut left = s.len();
-    while 0 < left {
+    for _ in 0..s.len() {
         match c.step(s) {
-            NameStep::Record(entry, number, next) => {
-                if util::unsigned32(entry.hreftype) == own.0 {
-                    return NameStep::Record(entry, number, next);
+            Step::Record(entry, number, next) => {
+                if entry.hreftype.cast_unsigned() == own.0 {
+                    return Step::Record(entry, number, next);
                 }
                 c = next;
             }
-            NameStep::Refused(n, same) => {
-                return NameStep::Refused(n, same);
-            }
+            Step::Refused(refusal, same) => return Step::Refused(refusal, same),
         }
-        left = left - 1;
     }
-    NameStep::Refused(9, c)
+    Step::Refused(Refusal::NothingThere, c)
 }
 
 // The text of match `k` behind the one that was found.
-fn match_behind(s: &[u8], own: TypeInfoOffset, k: usize, first: NameStep) -> PlaceAnswer
-    ensures { told_place result ≡ behind k s.now own.0 (told_name_step first) }
+fn match_behind(
+    s: &[u8],
+    own: TypeInfoOffset,
+    k: usize,
+    first: Step<NameEntry, NameCursor>,
+) -> Result<Place, Refusal>
+    ensures { told result ≡ behind k s.now own.0 (told_name_step first) }
 {
     let mut found = first;
-    let mut left = k;
-    loop {
+    for _ in 0..k {
         match found {
-            NameStep::Record(entry, _, c) => {
-                if left == 0 {
-                    let text = entry.text;
-                    return PlaceAnswer::Value(text);
-                }
-                found = next_match(s, own, c);
-                left = left - 1;
-            }
-            NameStep::Refused(n, _) => {
-                return PlaceAnswer::Refused(n);
-            }
+            Step::Record(_, _, c) => found = next_match(s, own, c),
+            Step::Refused(refusal, _) => return Err(refusal),
         }
+    }
+    match found {
+        Step::Record(entry, _, _) => Ok(entry.text),
+        Step::Refused(refusal, _) => Err(refusal),
     }
 }

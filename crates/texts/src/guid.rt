@@ -2,15 +2,15 @@
 ghost use Rattle.std.specs.Prelude.{◌∷◌, ◌≡◌, ◌+◌, ◌*◌, ◌≤◌, ◌<◌, length, take, drop};
 ghost use Rattle.std.proofs.lemmas.List.Edits.{sets};
 ghost use Rattle.util.specs.Read.{le};
-ghost use Rattle.records.specs.Told.{told_usize};
+ghost use Rattle.records.specs.Told.{told};
 ghost use Rattle.texts.specs.Guid.{hex_bytes, guid_text};
 ghost use Rattle.texts.specs.GuidLaws.{text_at};
 ghost use Rattle.texts.specs.Text.{digits, Laid};
 
 use crate::text;
-use records::answer::UsizeAnswer;
+use records::answer::Refusal;
 use records::field;
-use records::field::Held;
+use records::field::Record;
 use records::guid::Guid;
 
 // How many bytes the text has.
@@ -18,19 +18,15 @@ const TEXT_SIZE: usize = 38;
 
 // Writes the text form, `{XXXXXXXX-XXXX-XXXX-XXXX-XXXXXXXXXXXX}`, to the front of `out`, and
 // replies how many bytes it has; refusal 12 where `out` is shorter. A refusal writes nothing.
-pub fn text(guid: Guid, s: &[u8], out: &mut [u8]) -> UsizeAnswer
-    ensures { Laid (guid_text s.now guid.at guid.len) out.old (told_usize result) out.new }
+pub fn text(guid: Guid, s: &[u8], out: &mut [u8]) -> Result<usize, Refusal>
+    ensures { Laid (guid_text s.now guid.at guid.len) out.old (told result) out.new }
 {
-    match field::is_held(s, guid.at, guid.len, Guid::SIZE) {
-        Held::Inside => {
-            if out.len() < TEXT_SIZE {
-                return UsizeAnswer::Refused(12);
-            }
-            write_text(s, guid.at, out);
-            UsizeAnswer::Value(TEXT_SIZE)
-        }
-        Held::Refused(n) => UsizeAnswer::Refused(n),
+    field::is_held(s, guid.place(), Guid::SIZE)?;
+    if out.len() < TEXT_SIZE {
+        return Err(Refusal::NoSpace);
     }
+    write_text(s, guid.at, out);
+    Ok(TEXT_SIZE)
 }
 
 // Writes the text of the 16 bytes at `at`.
@@ -47,37 +43,32 @@ fn write_text(s: &[u8], at: usize, out: &mut [u8])
 }
 
 // Writes `mark` at `to` of `out`, and behind it the number of the `width` bytes at `at`, two digits
-// for each byte. The lowest byte is the first in `s`, and its digits are the last in `out`.
+// for each byte. The lowest byte is the first in `s`, and its digits are the last in `out`. (Here and below `to` is a place of the whole output, of
+// which the contract speaks, and `width` or `count` is how many bytes are asked for.)
 fn put_number(mark: u8, s: &[u8], at: usize, width: usize, out: &mut [u8], to: usize)
     requires { (at + width ≤ length s.now) × (to + 2 * width < length out.old) }
     ensures { out.new ≡ sets out.old to (mark ∷ digits 16 (2 * width) (le width s.now at)) }
 {
     out[to] = mark;
-    let mut from = at;
-    let mut left = width;
-    while 0 < left {
-        let byte = s[from];
-        from += 1;
-        left -= 1;
-        let before = to + 2 * left;
+    for i in 0..width {
+        let byte = s[at + i];
+        let before = to + 2 * (width - 1 - i);
         out[before + 2] = text::digit(byte % 16);
         out[before + 1] = text::digit(byte / 16);
     }
 }
 
 // Writes `mark` at `to` of `out`, and behind it the `count` bytes at `at` in their order, two digits
-// for each.
+// for each. (One function for both would take the order as a closure, and be no plainer.)
 fn put_bytes(mark: u8, s: &[u8], at: usize, count: usize, out: &mut [u8], to: usize)
     requires { (at + count ≤ length s.now) × (to + 2 * count < length out.old) }
     ensures { out.new ≡ sets out.old to (mark ∷ hex_bytes (take count (drop at s.now))) }
 {
     out[to] = mark;
-    let mut i: usize = 0;
-    while i < count {
+    for i in 0..count {
         let byte = s[at + i];
         let end = to + 2 * i;
         out[end + 1] = text::digit(byte / 16);
         out[end + 2] = text::digit(byte % 16);
-        i += 1;
     }
 }

@@ -3,6 +3,7 @@
 //
 // A text is written to the front of a lent output, and its length is replied; refusal 12 where the output is
 // shorter. A refusal writes nothing. Nothing is asked of the caller.
+// (By hand and not by `Display`: there is no heap, C lends the output as bytes, and the contracts say each byte of it.)
 
 #![tactic(auto)]
 

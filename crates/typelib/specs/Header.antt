@@ -7,7 +7,6 @@ use Rattle.records.specs.Answer.{Answer, value, refused}
 use Rattle.records.specs.Layout.{Layout, ◌of◌, size_of, offset_of, width_of}
 use Rattle.records.specs.Record.{limit, field, flag_set}
 use Rattle.typelib.specs.declared.TypeLib.{TypeLib}
-use Rattle.typelib.specs.declared.Parsed.{Parsed}
 use Rattle.typelib.specs.Tabulate.{tabulate}
 
 -- MSFT_Header
@@ -109,6 +108,11 @@ parse_of s =
 -- a refusal carries its number and zeros
 abbrev pub no_library : TypeLib
 no_library = library (replicate 32 0)
+
+-- a parse by its number, 0 or the refusal's, and the library, or none
+pub record Parsed : Type 0 where
+  pub number : ℕ
+  pub lib : TypeLib
 
 abbrev pub parsed : Answer TypeLib → Parsed
 parsed (value lib) = record { number = 0; lib = lib }

@@ -1,11 +1,28 @@
--- `parse_of`, a case each. Assumes nothing.
-use Rattle.std.specs.Prelude.{◌≡◌, refl, List, ℕ, zero, suc, ◌+◌, ◌-◌, ◌*◌, ◌/◌, ◌%◌, ◌^◌, ◌≤◌, ◌<◌, length, get_or, take, drop}
-use Rattle.std.proofs.Common.{sym, ◌∙◌, ap, arith, length-drop, get_or-take, get_or-drop, length-take-le}
-use borrow.Author.Tests.{le-leb, lt-leb, le-ltb, lt-ltb, eq-eqb, ne_eqb}
+-- The words of a part of a list of bytes. Assumes nothing.
+use Rattle.std.specs.Prelude.{◌≡◌, refl, List, ℕ, zero, suc, ◌+◌, ◌-◌, ◌*◌, ◌≤◌, length, get_or, take, drop, ◌/◌, ◌%◌, ◌^◌, ◌<◌}
+use Rattle.std.proofs.Common.{◌∙◌, ap, arith, length-drop, get_or-take, get_or-drop, length-take-le, sym}
 use Rattle.util.specs.Read.{le, read, or_zero, read-zero}
+use borrow.Author.Tests.{le-leb, lt-leb, le-ltb, lt-ltb, eq-eqb, ne_eqb}
 use Rattle.records.specs.Answer.{value, refused}
 use Rattle.records.specs.Record.{limit}
 use Rattle.typelib.specs.Header.{signature, word, table_at, directory_at, library_of, parse_of}
+
+le-part : (w : ℕ) (s : List ℕ) (at n k : ℕ) → k + w ≤ n → le w (take n (drop at s)) k ≡ le w s (at + k)
+unfolding le
+le-part zero s at n k h = refl
+le-part (suc w) s at n k h =
+    let first : get_or (take n (drop at s)) k 0 ≡ get_or s (at + k) 0 = get_or-take n (drop at s) k 0 (omega arith) ∙ get_or-drop at s k 0 in
+    let rest : le w (take n (drop at s)) (k + 1) ≡ le w s (at + (k + 1)) = le-part w s at n (k + 1) (omega arith) in
+    let e : at + (k + 1) ≡ at + k + 1 = omega arith in
+    ap (λ b. b + 256 * le w (take n (drop at s)) (k + 1)) first ∙ ap (λ r. get_or s (at + k) 0 + 256 * r) (rest ∙ ap (λ i. le w s i) e)
+
+pub word-in-part : (s : List ℕ) (at n k v : ℕ) → k + 4 ≤ n → at + n ≤ length s → v ≡ or_zero (read 4 (take n (drop at s)) k) → v ≡ le 4 s (at + k)
+word-in-part s at n k v h l e =
+    let d : length (drop at s) ≡ length s - at = length-drop at s in
+    let g : length (take n (drop at s)) ≡ n = length-take-le n (drop at s) (omega arith) in
+    read-zero 4 (take n (drop at s)) k v (omega arith) e ∙ le-part 4 s at n k h
+
+-- ---- the same by cases
 
 module _ (s : List ℕ) where
   pub parse-long : limit < length s → refused 1 ≡ parse_of s
@@ -55,20 +72,3 @@ table-with s b h e =
 
 pub table-without : (s : List ℕ) (b : ℕ) → (b ≡ 1 → ⊥) → b ≡ word "varflags" s / 2 ^ 8 % 2 ^ 1 → 84 ≡ table_at s
 table-without s b h e = rw (ne_eqb (word "varflags" s / 256 % 2) 1 (λ f. h (e ∙ f)))
-
--- ---- the words of a part
-
-le-part : (w : ℕ) (s : List ℕ) (at n k : ℕ) → k + w ≤ n → le w (take n (drop at s)) k ≡ le w s (at + k)
-unfolding le
-le-part zero s at n k h = refl
-le-part (suc w) s at n k h =
-    let first : get_or (take n (drop at s)) k 0 ≡ get_or s (at + k) 0 = get_or-take n (drop at s) k 0 (omega arith) ∙ get_or-drop at s k 0 in
-    let rest : le w (take n (drop at s)) (k + 1) ≡ le w s (at + (k + 1)) = le-part w s at n (k + 1) (omega arith) in
-    let e : at + (k + 1) ≡ at + k + 1 = omega arith in
-    ap (λ b. b + 256 * le w (take n (drop at s)) (k + 1)) first ∙ ap (λ r. get_or s (at + k) 0 + 256 * r) (rest ∙ ap (λ i. le w s i) e)
-
-pub word-in-part : (s : List ℕ) (at n k v : ℕ) → k + 4 ≤ n → at + n ≤ length s → v ≡ or_zero (read 4 (take n (drop at s)) k) → v ≡ le 4 s (at + k)
-word-in-part s at n k v h l e =
-    let d : length (drop at s) ≡ length s - at = length-drop at s in
-    let g : length (take n (drop at s)) ≡ n = length-take-le n (drop at s) (omega arith) in
-    read-zero 4 (take n (drop at s)) k v (omega arith) e ∙ le-part 4 s at n k h

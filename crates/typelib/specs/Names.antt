@@ -18,10 +18,13 @@ use Rattle.typelib.specs.Tables.{lent, segment_of, table_place}
 abbrev pub name_intro : Layout
 name_intro = ("hreftype" of 4) ∷ ("next_hash" of 4) ∷ ("namelen" of 1) ∷ ("flags" of 1) ∷ ("hashcode" of 2) ∷ []
 
+-- the n bytes behind the first `head` at an offset of segment k
+abbrev pub place_behind : List ℕ → TypeLib → ℕ → ℕ → ℕ → ℕ → Answer Place
+place_behind s lib k offset head n = map (λ p. record { at = p.at + head; len = n }) (table_place s lib k offset (head + n))
+
 -- a name of n bytes stands behind its intro
 abbrev pub name_behind : List ℕ → TypeLib → ℕ → ℕ → Answer Place
-name_behind s lib offset n =
-    map (λ p. record { at = p.at + size_of name_intro; len = n }) (table_place s lib 7 offset (size_of name_intro + n))
+name_behind s lib offset n = place_behind s lib 7 offset (size_of name_intro) n
 
 -- the bytes of a name, in segment 7
 abbrev pub name_bytes : List ℕ → TypeLib → ℕ → Answer Place
@@ -35,7 +38,7 @@ name_text s lib offset = text_of s (name_bytes s lib offset)
 
 -- a string of segment 8: two bytes of length, and the text
 abbrev pub string_behind : List ℕ → TypeLib → ℕ → ℕ → Answer Place
-string_behind s lib offset n = map (λ p. record { at = p.at + 2; len = n }) (table_place s lib 8 offset (2 + n))
+string_behind s lib offset n = place_behind s lib 8 offset 2 n
 
 abbrev pub string_bytes : List ℕ → TypeLib → ℕ → Answer Place
 string_bytes s lib offset = bind (table_place s lib 8 offset 2) (λ p. string_behind s lib offset (le 2 s p.at))

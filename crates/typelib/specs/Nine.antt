@@ -1,9 +1,8 @@
 -- Over bytes that are not over-long, a reading of a record or of the words behind it refuses with 9 and no other number;
 -- over bytes that are, with 1.
 -- Assumes nothing.
-use Rattle.std.specs.Prelude.{◌≡◌, List, ℕ, ◌+◌, ◌≤◌, ◌<◌, leb, ltb, length}
+use Rattle.std.specs.Prelude.{◌≡◌, List, ℕ, ◌+◌, ◌≤◌, ◌<◌, leb, ltb, length, Option, Some, None}
 use Rattle.std.proofs.Common.{ap, arith, ltb-true}
-use Rattle.std.proofs.Math.Option.{Option, some, none}
 use Rattle.util.specs.Read.{read, cond-elim}
 use Rattle.records.specs.declared.typeinfo.TypeInfoEntry.{TypeInfoEntry}
 use Rattle.records.specs.Answer.{Answer, value, refused, map, bind, or_nine}
@@ -31,8 +30,8 @@ nine-bind f (value x) h k n e = k x n e
 nine-bind f (refused m) h k n e = h n (let q : n ≡ m = cc in ap refused q)
 
 pub nine-or : {A : Type 0} (o : Option A) → OnlyNine (or_nine o)
-nine-or none n e = cc
-nine-or (some x) n e = nine-value x n e
+nine-or None n e = cc
+nine-or (Some x) n e = nine-value x n e
 
 pub nine-held : (s : List ℕ) (at len fixed : ℕ) → length s ≤ limit → OnlyNine (held s at len fixed)
 unfolding held

@@ -1,11 +1,11 @@
 -- Laws of `References`, a case each. Assumes nothing.
-use Rattle.std.specs.Prelude.{◌≡◌, List, ℕ, ◌-◌, ◌/◌, ◌%◌, ◌^◌, ◌≤◌, ◌<◌}
-use Rattle.std.proofs.Common.{sym, ◌∙◌, arith}
-use borrow.Author.Tests.{le-leb, lt-leb, le-ltb, lt-ltb, eq-eqb, ne_eqb}
+use Rattle.std.specs.Prelude.{◌≡◌, List, ℕ, ◌/◌, ◌%◌, ◌≤◌, ◌<◌, ◌-◌, ◌^◌}
+use borrow.Author.Tests.{le-ltb, lt-ltb, eq-eqb, le-leb, lt-leb, ne_eqb}
 use Rattle.records.specs.Answer.{Answer, value, refused, map}
 use Rattle.typelib.specs.declared.TypeLib.{TypeLib}
 use Rattle.typelib.specs.Header.{type_count}
-use Rattle.typelib.specs.References.{internal_index, href_index, Resolved, internal, dispatch_bit, cleared, import_at, resolved_at}
+use Rattle.typelib.specs.References.{internal_index, Resolved, internal, resolved_at, href_index, dispatch_bit, cleared, import_at}
+use Rattle.std.proofs.Common.{sym, ◌∙◌, arith}
 
 module _ (count h : ℕ) where
   pub index-there : h / 100 < count → value (h / 100) ≡ internal_index count h
@@ -15,6 +15,13 @@ module _ (count h : ℕ) where
   pub index-beyond : count ≤ h / 100 → refused 9 ≡ internal_index count h
   unfolding internal_index
   index-beyond k = rw (le-ltb (h / 100) count k)
+
+module _ (s : List ℕ) (lib : TypeLib) (h : ℕ) where
+  pub resolved-internal : (a : Answer Resolved) → h % 4 ≡ 0 → a ≡ map internal (internal_index (type_count lib) h) → a ≡ resolved_at s lib h
+  unfolding resolved_at
+  resolved-internal a z e = rw (eq-eqb (h % 4) 0 z) e
+
+-- ---- the same by cases
 
 module _ (lib : TypeLib) (h : ℕ) where
   pub href-negative : 0x80000000 ≤ h → refused 9 ≡ href_index lib h
@@ -34,10 +41,6 @@ pub low_bits : (h r : ℕ) → r ≡ h / 2 ^ 0 % 2 ^ 2 → r ≡ h % 4
 low_bits h r e = omega arith
 
 module _ (s : List ℕ) (lib : TypeLib) (h : ℕ) where
-  pub resolved-internal : (a : Answer Resolved) → h % 4 ≡ 0 → a ≡ map internal (internal_index (type_count lib) h) → a ≡ resolved_at s lib h
-  unfolding resolved_at
-  resolved-internal a z e = rw (eq-eqb (h % 4) 0 z) e
-
   pub resolved-import : (a : Answer Resolved) → (h % 4 ≡ 0 → ⊥) → a ≡ import_at s lib (h - h % 4) → a ≡ resolved_at s lib h
   unfolding resolved_at
   resolved-import a z e = rw (ne_eqb (h % 4) 0 z) e

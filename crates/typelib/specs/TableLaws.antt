@@ -1,17 +1,17 @@
 -- Laws of `Tables`, a case each. Assumes nothing.
-use Rattle.std.specs.Prelude.{◌≡◌, refl, Bool, true, false, cond, ◌&&◌, List, [], ◌∷◌, ℕ, ◌+◌, ◌*◌, ◌/◌, ◌%◌, ◌^◌, ◌≤◌, ◌<◌, leb, ltb, eqb, length, get_or, ℤ}
+use Rattle.std.specs.Prelude.{◌≡◌, refl, Bool, true, false, ◌&&◌, List, [], ◌∷◌, ℕ, ◌+◌, ◌*◌, ◌/◌, ◌%◌, ◌^◌, ◌≤◌, ◌<◌, leb, ltb, eqb, length, get_or, ℤ, cond}
 use Rattle.std.proofs.Common.{◌∙◌, ap, arith, SFits, to_z, of_z}
 use Rattle.std.proofs.lemmas.Bool.{false≢true}
 use Rattle.std.proofs.Math.ListN.{get_or-append}
 use Rattle.std.proofs.lemmas.List.{get_or_at}
-use borrow.Author.Tests.{le-leb, lt-leb, le-ltb, lt-ltb, eq-eqb, ne_eqb, leb-true, leb-false, ltb-false}
+use borrow.Author.Tests.{le-leb, lt-leb, le-ltb, lt-ltb, leb-true, leb-false, ltb-false, eq-eqb, ne_eqb}
 use Rattle.std.specs.Int.{w32}
 use Rattle.std.proofs.lemmas.Int.{to_z-of_z}
-use Rattle.util.specs.Read.{le, cond-elim}
+use Rattle.util.specs.Read.{le, read, or_zero, read-zero, cond-elim}
 use Rattle.records.specs.declared.answer.Place.{Place}
 use Rattle.records.specs.Answer.{Answer, value, refused, map, bind}
 use Rattle.records.specs.RecordLaws.{held-elim}
-use Rattle.records.specs.Record.{limit, held, record_place}
+use Rattle.records.specs.Record.{limit, record_place, held}
 use Rattle.typelib.specs.declared.TypeLib.{TypeLib}
 use Rattle.typelib.specs.Tabulate.{length-tabulate, get_d_tabulate}
 use Rattle.typelib.specs.Header.{word, table_at, directory_at, segment_offset, segment_length, type_count, pair_at, pairs_at, library_of}
@@ -26,34 +26,6 @@ lent-long s a h = rw (lt-ltb limit (length s) h)
 pub lent_fits : {A : Type 0} (s : List ℕ) (a r : Answer A) → length s ≤ limit → r ≡ a → r ≡ lent s a
 unfolding lent
 lent_fits s a r h e = rw (le-ltb limit (length s) h) e
-
--- ---- segments
-
-module _ (lib : TypeLib) (k : ℕ) where
-  pub segment-none : 15 ≤ k → refused 9 ≡ segment_of lib k
-  unfolding segment_of
-  segment-none h = rw (le-leb 15 k h)
-
-  pub segment-some : (a : Answer Place) → k < 15 → a ≡ segment_place (segment_offset lib k) (segment_length lib k) → a ≡ segment_of lib k
-  unfolding segment_of
-  segment-some a h e = rw (lt-leb 15 k h) e
-
-module _ (offset size : ℕ) where
-  pub segment-offset : 0x80000000 ≤ offset → refused 9 ≡ segment_place offset size
-  unfolding segment_place
-  segment-offset h = rw (le-leb 0x80000000 offset h)
-
-  pub segment-empty : offset < 0x80000000 → size ≡ 0 → refused 9 ≡ segment_place offset size
-  unfolding segment_place
-  segment-empty h z = rw (lt-leb 0x80000000 offset h, eq-eqb size 0 z)
-
-  pub segment-length : offset < 0x80000000 → (size ≡ 0 → ⊥) → 0x80000000 ≤ size → refused 9 ≡ segment_place offset size
-  unfolding segment_place
-  segment-length h z n = rw (lt-leb 0x80000000 offset h, ne_eqb size 0 z, le-leb 0x80000000 size n)
-
-  pub segment-there : offset < 0x80000000 → (size ≡ 0 → ⊥) → size < 0x80000000 → value (record { at = offset; len = size }) ≡ segment_place offset size
-  unfolding segment_place
-  segment-there h z n = rw (lt-leb 0x80000000 offset h, ne_eqb size 0 z, lt-leb 0x80000000 size n)
 
 -- a table that is not empty is not missing
 pub table_is : (a : Answer Place) (table : Place) → table ≡ table_of a → 0 < table.len → value table ≡ a
@@ -71,12 +43,6 @@ and_right true b e = e
 and_right false b e = absurd (false≢true e)
 
 module _ (s : List ℕ) (table : Place) (end : ℕ) where
-  pub table-past : table.len < end → in_table s table end ≡ false
-  table-past h = rw (lt-leb end table.len h)
-
-  pub table-cut : end ≤ table.len → length s < table.at + end → in_table s table end ≡ false
-  table-cut h k = rw (le-leb end table.len h, lt-leb (table.at + end) (length s) k)
-
   pub table-there : end ≤ table.len → table.at + end ≤ length s → in_table s table end ≡ true
   table-there h k = rw (le-leb end table.len h, le-leb (table.at + end) (length s) k)
 
@@ -92,10 +58,6 @@ module _ (s : List ℕ) (table : Place) (end : ℕ) where
       record { segment = leb-true end table.len (and_left a b e); file = leb-true (table.at + end) (length s) (and_right a b e) }
 
 module _ (s : List ℕ) (table : Place) (offset size : ℕ) where
-  pub place-negative : 0x80000000 ≤ offset → refused 9 ≡ place_in s table offset size
-  unfolding place_in
-  place-negative h = rw (le-leb 0x80000000 offset h)
-
   pub place_out : offset < 0x80000000 → in_table s table (offset + size) ≡ false → refused 9 ≡ place_in s table offset size
   unfolding place_in
   place_out h e = rw (lt-leb 0x80000000 offset h, e)
@@ -145,6 +107,12 @@ found s lib k offset size p =
     let f = found-bind s (segment_of lib k) offset size p e in
     record { few = ltb-false limit (length s) h; inside = f.inside; whole = f.whole })
 
+-- a number that is read of such bytes
+pub number-found : (w : ℕ) (s : List ℕ) (lib : TypeLib) (k offset size : ℕ) (p : Place) (i r : ℕ) → value p ≡ table_place s lib k offset size → i + w ≤ size → r ≡ or_zero (read w s (p.at + i)) → r ≡ le w s (p.at + i)
+number-found w s lib k offset size p i r e l q =
+    let h = found s lib k offset size p e in
+    read-zero w s (p.at + i) r (omega arith) q
+
 -- ---- signed offsets
 
 -- a signed number and its 32-bit pattern, as a call hands it on
@@ -152,20 +120,6 @@ pub pattern : (z : ℤ) (r : ℕ) → SFits w32 z → r ≡ of_z w32 (to_z w32 (
 pattern z r f e = e ∙ ap (of_z w32) (to_z-of_z w32 z f)
 
 -- ---- the place of a record
-
-pub record-lent : (fixed : ℕ) (s : List ℕ) (at len : ℕ) → record_place fixed s at len ≡ lent s (record_place fixed s at len)
-unfolding held lent
-record-lent fixed s at len = go (ltb limit (length s))
-  where
-    rest : Answer Unit
-    rest = cond (ltb len fixed) (refused 9) (cond (leb (at + len) (length s)) (value tt) (refused 9))
-
-    placed : Answer Unit → Answer Place
-    placed h = map (λ _. record { at = at; len = len }) h
-
-    go : (b : Bool) → placed (cond b (refused 1) rest) ≡ cond b (refused 1) (placed (cond b (refused 1) rest))
-    go true = refl
-    go false = refl
 
 pub record-inside : (fixed : ℕ) (s : List ℕ) (at len : ℕ) (p : Place) → value p ≡ record_place fixed s at len → p.at + p.len ≤ length s
 record-inside fixed s at len p =
@@ -222,3 +176,57 @@ parsed-segment s k h =
     let f : at + 16 * ((2 * k + 1) / 2) + 4 * ((2 * k + 1) % 2) ≡ at + 16 * k + 4 = omega arith in
     rw (lt-leb 15 k h) (ap (λ x. segment_place x (segment_length (library_of s) k)) (parsed-pair s (2 * k) (omega arith) ∙ ap (λ n. le 4 s n) e)
     ∙ ap (segment_place (le 4 s (at + 16 * k))) (parsed-pair s (2 * k + 1) (omega arith) ∙ ap (λ n. le 4 s n) f))
+
+-- ---- the same by cases
+
+module _ (lib : TypeLib) (k : ℕ) where
+  pub segment-none : 15 ≤ k → refused 9 ≡ segment_of lib k
+  unfolding segment_of
+  segment-none h = rw (le-leb 15 k h)
+
+  pub segment-some : (a : Answer Place) → k < 15 → a ≡ segment_place (segment_offset lib k) (segment_length lib k) → a ≡ segment_of lib k
+  unfolding segment_of
+  segment-some a h e = rw (lt-leb 15 k h) e
+
+module _ (offset size : ℕ) where
+  pub segment-offset : 0x80000000 ≤ offset → refused 9 ≡ segment_place offset size
+  unfolding segment_place
+  segment-offset h = rw (le-leb 0x80000000 offset h)
+
+  pub segment-empty : offset < 0x80000000 → size ≡ 0 → refused 9 ≡ segment_place offset size
+  unfolding segment_place
+  segment-empty h z = rw (lt-leb 0x80000000 offset h, eq-eqb size 0 z)
+
+  pub segment-length : offset < 0x80000000 → (size ≡ 0 → ⊥) → 0x80000000 ≤ size → refused 9 ≡ segment_place offset size
+  unfolding segment_place
+  segment-length h z n = rw (lt-leb 0x80000000 offset h, ne_eqb size 0 z, le-leb 0x80000000 size n)
+
+  pub segment-there : offset < 0x80000000 → (size ≡ 0 → ⊥) → size < 0x80000000 → value (record { at = offset; len = size }) ≡ segment_place offset size
+  unfolding segment_place
+  segment-there h z n = rw (lt-leb 0x80000000 offset h, ne_eqb size 0 z, lt-leb 0x80000000 size n)
+
+module _ (s : List ℕ) (table : Place) (end : ℕ) where
+  pub table-past : table.len < end → in_table s table end ≡ false
+  table-past h = rw (lt-leb end table.len h)
+
+  pub table-cut : end ≤ table.len → length s < table.at + end → in_table s table end ≡ false
+  table-cut h k = rw (le-leb end table.len h, lt-leb (table.at + end) (length s) k)
+
+module _ (s : List ℕ) (table : Place) (offset size : ℕ) where
+  pub place-negative : 0x80000000 ≤ offset → refused 9 ≡ place_in s table offset size
+  unfolding place_in
+  place-negative h = rw (le-leb 0x80000000 offset h)
+
+pub record-lent : (fixed : ℕ) (s : List ℕ) (at len : ℕ) → record_place fixed s at len ≡ lent s (record_place fixed s at len)
+unfolding held lent
+record-lent fixed s at len = go (ltb limit (length s))
+  where
+    rest : Answer Unit
+    rest = cond (ltb len fixed) (refused 9) (cond (leb (at + len) (length s)) (value tt) (refused 9))
+
+    placed : Answer Unit → Answer Place
+    placed h = map (λ _. record { at = at; len = len }) h
+
+    go : (b : Bool) → placed (cond b (refused 1) rest) ≡ cond b (refused 1) (placed (cond b (refused 1) rest))
+    go true = refl
+    go false = refl

@@ -1,19 +1,18 @@
 -- What the check does with a byte, by the test of `Utf8`: one law for a byte, one for the end, one for where no byte is read any more;
 -- and what the parts of the check tell. Assumes nothing.
-use Rattle.std.specs.Prelude.{◌≡◌, Bool, cond, List, ◌∷◌, ◌↔◌, length, get_or, leb, ltb, eqb}
+use Rattle.std.specs.Prelude.{◌≡◌, Bool, cond, Option, Some, None, Result, Ok, Err, List, ◌∷◌, ◌↔◌, ◌⊎◌, length, get_or, ltb, eqb}
 use Rattle.std.proofs.Math.Path.{refl, ap}
-use Rattle.std.proofs.Common.{◌∙◌, sym, add-one, drop-cons, le-leb, lt-ltb, le-ltb}
+use Rattle.std.proofs.Common.{inl, inr, ◌∙◌, sym, add-one, drop-cons, le-leb, lt-ltb, le-ltb}
 use Rattle.std.proofs.Math.Bool.{true, false}
 use Prim.Native.Nat.{ℕ, suc, ◌+◌, ◌-◌, ◌^◌, ◌≤◌, ◌<◌}
 use native.Mathlib.Omega.{arith}
 use Rattle.std.proofs.Math.ListN.{drop, drop_of_length-le}
 use Rattle.std.proofs.lemmas.Bool.{lt-leb}
-use Rattle.utf8.specs.Utf8.{Text, LookedAt, after_first, after_tail, after_byte, accepts, utf8}
-use Rattle.utf8.specs.Utf8Laws.{apart, accepts-none, accepts-on, first-1, Awaits, utf8-text}
+use Rattle.utf8.specs.Utf8.{In, Text, LookedAt, after_first, after_tail, after_byte, accepts, utf8}
+use Rattle.utf8.specs.Utf8Laws.{accepts-none, accepts-on, first-1, Awaits, utf8-text}
 use Rattle.utf8.specs.LookedLaws.{read_from, read_none, looked-read}
 use Rattle.utf8.specs.Looked.{looked_at, checked, just-one, looked-at, looked-within}
 use Rattle.utf8.specs.declared.TextCheck.{TextCheck}
-use Rattle.utf8.specs.declared.Stretch.{Stretch}
 
 -- what is to be replied of s, where the bytes before `at` are read and led to `state`
 unfoldable pub checked_from : ℕ → ℕ → List ℕ → TextCheck
@@ -46,6 +45,10 @@ module _ (state at : ℕ) (s : List ℕ) where
       let none = drop_of_length-le s h in
       check-eq (ap (accepts state) none) (ap (λ x. at + read_from state x) none ∙ omega arith)
 
+-- so that a text ends there
+pub text-end : (at : ℕ) (s : List ℕ) → at ≡ length s → checked_from 0 at s ≡ record { valid = true; looked = length s }
+text-end at s e = at-end 0 at s (omega arith) ∙ check-eq refl e
+
 -- In state 8 no byte is read any more.
 stopped : (at : ℕ) (s : List ℕ) → checked_from 8 at s ≡ record { valid = false; looked = at }
 unfolding checked_from
@@ -53,73 +56,102 @@ stopped at s = let e = read_none (drop at s) in check-eq (accepts-none (drop at 
 
 -- ---- parts of the check
 
--- What a part r of the check tells that began at `at` in `state`: where the test goes on, in `then`; or how the check ends.
-pub record Reads (s : List ℕ) (state at then : ℕ) (r : TextCheck) : Type 0 where
-  pub further : r.valid ≡ true → (at < r.looked) × (r.looked ≤ length s)
-  pub on : r.valid ≡ true → checked_from state at s ≡ checked_from then r.looked s
-  pub ends : r.valid ≡ false → checked_from state at s ≡ r
+-- A part of the check that began at `at` in `state` read the bytes up to n, and the test goes on there in `then`.
+pub record GoesOn (s : List ℕ) (state at then n : ℕ) : Type 0 where
+  pub further : at < n
+  pub within : n ≤ length s
+  pub on : checked_from state at s ≡ checked_from then n s
 
--- What a part r tells that read the byte at `at`, if there is one, and asked whether it lies from lo to hi: so for every state that
--- awaits such a byte.
-pub record TailRead (s : List ℕ) (at lo hi : ℕ) (r : TextCheck) : Type 0 where
-  pub in-state : {state then : ℕ} → Awaits state lo hi then → Reads s state at then r
+-- What a part tells that began at `at` in `state`: where the test goes on, in `then`; or how many bytes are looked at, where no text does.
+abbrev pub Reads : List ℕ → ℕ → ℕ → ℕ → Result ℕ ℕ → Type 0
+Reads s state at then (Ok n) = GoesOn s state at then n
+Reads s state at then (Err n) = checked_from state at s ≡ record { valid = false; looked = n }
 
--- a part that ends the check
-pub over : {s : List ℕ} {state at : ℕ} {r : TextCheck} (then : ℕ) → r.valid ≡ false → checked_from state at s ≡ r → Reads s state at then r
-over then v e = record { further = λ t. apart (sym v ∙ t); on = λ t. apart (sym v ∙ t); ends = λ _. e }
+-- The same of every state that awaits a byte from lo to hi, and behind it what `then` says: it goes on in `last`.
+pub record TailsRead (s : List ℕ) (at lo hi then last : ℕ) (r : Result ℕ ℕ) : Type 0 where
+  pub in-state : {state : ℕ} → Awaits state lo hi then → Reads s state at last r
 
 -- a part that goes on, and one behind it
-pub joined : {s : List ℕ} {state at then last : ℕ} {q r : TextCheck} → q.valid ≡ true → Reads s state at then q → Reads s then q.looked last r → Reads s state at last r
-joined v a b =
-    record {
-      further = λ e. let f = a.further v in let g = b.further e in (omega arith, g.1);
-      on = λ e. a.on v ∙ b.on e;
-      ends = λ e. a.on v ∙ b.ends e;
-    }
+joined : {s : List ℕ} {state at then n : ℕ} (last : ℕ) (r : Result ℕ ℕ) → GoesOn s state at then n → Reads s then n last r → Reads s state at last r
+joined last (Ok m) a b = record { further = omega (arith, a.further, b.further); within = b.within; on = a.on ∙ b.on }
+joined last (Err m) a b = a.on ∙ b
+
+-- the tails behind one that stands there, and where none stands
+module _ {s : List ℕ} {at lo hi then n : ℕ} where
+  pub tails-on : {lo' hi' next last : ℕ} {r : Result ℕ ℕ} → TailsRead s at lo hi then then (Ok n) → Awaits then lo' hi' next → TailsRead s n lo' hi' next last r → TailsRead s at lo hi then last r
+  tails-on {last} {r} a w b = record { in-state = λ {state} v. joined last r (a.in-state v) (b.in-state w) }
+
+  pub tails-end : {last : ℕ} → TailsRead s at lo hi then then (Err n) → TailsRead s at lo hi then last (Err n)
+  tails-end a = record { in-state = λ {state} v. a.in-state v }
+
+-- the tails behind a first byte
+pub behind-first : {s : List ℕ} {at k lo hi then last : ℕ} (b : ℕ) (r : Result ℕ ℕ) → after_first b ≡ k → Awaits k lo hi then → TailsRead s at lo hi then last r → Reads s (after_first b) at last r
+behind-first b r e w t = t.in-state (rw e w)
 
 -- a first byte that begins no character
-pub no-first : (s : List ℕ) (at b : ℕ) → after_first b ≡ 8 → Reads s (after_first b) at 0 (record { valid = false; looked = at })
-no-first s at b e = over 0 refl (ap (λ x. checked_from x at s) e ∙ stopped at s)
+pub no-first : (s : List ℕ) (at b : ℕ) → after_first b ≡ 8 → checked_from (after_first b) at s ≡ record { valid = false; looked = at }
+no-first s at b e = ap (λ x. checked_from x at s) e ∙ stopped at s
 
 -- ---- a byte that is awaited
 
-module _ (s : List ℕ) (at lo hi : ℕ) where
+module _ (s : List ℕ) (at lo hi then : ℕ) where
   -- where none stands,
-  pub tail-end : length s ≤ at → TailRead s at lo hi (record { valid = false; looked = at })
-  tail-end h = record { in-state = λ {state} {then} w. over then refl (at-end state at s h ∙ rw w.inside) }
+  pub tail-end : length s ≤ at → TailsRead s at lo hi then then (Err at)
+  tail-end h = record { in-state = λ {state} w. at-end state at s h ∙ rw w.inside }
 
   module _ (h : at < length s) where
-    led : {state then : ℕ} → Awaits state lo hi then → (k : ℕ) → after_tail (get_or s at 0) lo hi then ≡ k → checked_from state at s ≡ checked_from k (at + 1) s
+    led : {state : ℕ} → Awaits state lo hi then → (k : ℕ) → after_tail (get_or s at 0) lo hi then ≡ k → checked_from state at s ≡ checked_from k (at + 1) s
     led {state} w k e = read-on state at s w.going h ∙ ap (λ x. checked_from x (at + 1) s) (w.after (get_or s at 0) ∙ e)
 
-    refused : ((k : ℕ) → after_tail (get_or s at 0) lo hi k ≡ 8) → TailRead s at lo hi (record { valid = false; looked = at + 1 })
-    refused e = record { in-state = λ {state} {then} w. over then refl (led w 8 (e then) ∙ stopped (at + 1) s) }
+    refused : after_tail (get_or s at 0) lo hi then ≡ 8 → TailsRead s at lo hi then then (Err (at + 1))
+    refused e = record { in-state = λ {state} w. led w 8 e ∙ stopped (at + 1) s }
 
-    -- where one stands below lo,
-    pub tail-below : get_or s at 0 < lo → TailRead s at lo hi (record { valid = false; looked = at + 1 })
+    -- where one stands that does not lie from lo to hi,
+    pub tail-outside : (lo ≤ get_or s at 0) × (hi < get_or s at 0) ⊎ (get_or s at 0 < lo) → TailsRead s at lo hi then then (Err (at + 1))
     unfolding after_tail
-    tail-below l = refused (λ k. rw (lt-leb lo (get_or s at 0) l))
+    tail-outside (inl (l, u)) = refused (rw (le-leb lo (get_or s at 0) l, lt-leb (get_or s at 0) hi u))
+    tail-outside (inr l) = refused (rw (lt-leb lo (get_or s at 0) l))
 
-    -- and where one stands from lo on
-    pub tail_from : lo ≤ get_or s at 0 → (valid : Bool) → leb (get_or s at 0) hi ≡ valid → TailRead s at lo hi (record { valid = valid; looked = at + 1 })
+    -- and where one stands that does
+    pub tail-inside : lo ≤ get_or s at 0 → get_or s at 0 ≤ hi → TailsRead s at lo hi then then (Ok (at + 1))
     unfolding after_tail
-    tail_from l true e =
+    tail-inside l u =
         record {
-          in-state = λ {state} {then} w. record {
-            further = λ _. (omega arith, omega arith);
-            on = λ _. led w then (rw (le-leb lo (get_or s at 0) l, e));
-            ends = λ x. apart (sym x);
+          in-state = λ {state} w. record {
+            further = omega arith;
+            within = omega arith;
+            on = led w then (rw (le-leb lo (get_or s at 0) l, le-leb (get_or s at 0) hi u));
           };
         }
-    tail_from l false e = refused (λ k. rw (le-leb lo (get_or s at 0) l, e))
 
--- What a stretch of ASCII from `at` on tells, with the byte behind it: below 80 where none is, and the bytes are text; else how the
--- check goes on behind that byte.
-pub record Ascii (s : List ℕ) (at : ℕ) (r : Stretch) : Type 0 where
-  pub further : at ≤ r.looked
-  pub within : r.looked ≤ length s
-  pub text : r.byte < 0x80 → checked_from 0 at s ≡ record { valid = true; looked = r.looked }
-  pub on : 0x80 ≤ r.byte → checked_from 0 at s ≡ checked_from (after_first r.byte) r.looked s
+-- From `at` on the bytes are ASCII up to one, b, that is not; behind it is n, and the check goes on there.
+pub record AsciiUpTo (s : List ℕ) (at b n : ℕ) : Type 0 where
+  pub beyond : In 0x80 0xff b
+  pub further : at < n
+  pub within : n ≤ length s
+  pub on : checked_from 0 at s ≡ checked_from (after_first b) n s
+
+-- What a stretch of ASCII from `at` on tells: where nothing else follows, the bytes are text.
+abbrev pub Ascii : List ℕ → ℕ → Option (ℕ × ℕ) → Type 0
+Ascii s at None = checked_from 0 at s ≡ record { valid = true; looked = length s }
+Ascii s at (Some r) = AsciiUpTo s at r.0 r.1
+
+pub seen : (s : List ℕ) (at : ℕ) {q r : Option (ℕ × ℕ)} → q ≡ r → Ascii s at q → Ascii s at r
+seen s at e a = rw (sym e) a
+
+-- a stretch, the character behind it, and the stretch behind that
+pub stretched : {s : List ℕ} {at b m n : ℕ} (r : Option (ℕ × ℕ)) → AsciiUpTo s at b m → GoesOn s (after_first b) m 0 n → Ascii s n r → Ascii s at r
+stretched None a c b = a.on ∙ c.on ∙ b
+stretched (Some r) a c b = record { beyond = b.beyond; further = omega (arith, a.further, b.further, c.further); within = b.within; on = a.on ∙ c.on ∙ b.on }
+
+-- how far the check is from its end behind a stretch; behind the next stretch it is nearer
+abbrev pub left_behind : List ℕ → Option (ℕ × ℕ) → ℕ
+left_behind s None = 0
+left_behind s (Some r) = suc (length s - r.1)
+
+pub nearer : {s : List ℕ} {state at n : ℕ} (r : Option (ℕ × ℕ)) → GoesOn s state at 0 n → Ascii s n r → left_behind s r < suc (length s - at)
+nearer None a b = omega arith
+nearer (Some r) a b = omega (arith, a.further, b.further, b.within)
 
 module _ (s : List ℕ) (at : ℕ) (h : at < length s) where
   -- a byte in state 0
@@ -130,16 +162,6 @@ module _ (s : List ℕ) (at : ℕ) (h : at < length s) where
   -- one of ASCII
   pub ascii-read : get_or s at 0 < 0x80 → checked_from 0 at s ≡ checked_from 0 (at + 1) s
   ascii-read l = first_read ∙ ap (λ x. checked_from x (at + 1) s) (first-1 (get_or s at 0) (record { low = omega arith; high = omega arith }))
-
--- a stretch, the character behind it, and the stretch behind that
-pub stretched : {s : List ℕ} {at : ℕ} {q r : Stretch} {character : TextCheck} → Ascii s at q → 0x80 ≤ q.byte → character.valid ≡ true → Reads s (after_first q.byte) q.looked 0 character → Ascii s character.looked r → Ascii s at r
-stretched a h v c b =
-    record {
-      further = let f = c.further v in let g = a.further in let l = b.further in omega arith;
-      within = b.within;
-      text = λ e. a.on h ∙ c.on v ∙ b.text e;
-      on = λ e. a.on h ∙ c.on v ∙ b.on e;
-    }
 
 -- ---- the whole check
 

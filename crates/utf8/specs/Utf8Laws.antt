@@ -40,31 +40,31 @@ module _ (a : ℕ) where
   unfolding after_first
   first-1 h = rw (lt-ltb a 0x80 (omega arith))
 
-  first-2 : In 0xc2 0xdf a → after_first a ≡ 1
+  pub first-2 : In 0xc2 0xdf a → after_first a ≡ 1
   unfolding after_first
   first-2 h = rw (le-ltb a 0x80 (omega arith), le-ltb a 0xc2 (omega arith), lt-ltb a 0xe0 (omega arith))
 
-  first-e0 : In 0xe0 0xe0 a → after_first a ≡ 4
+  pub first-e0 : In 0xe0 0xe0 a → after_first a ≡ 4
   unfolding after_first
   first-e0 h = rw (le-ltb a 0x80 (omega arith), le-ltb a 0xc2 (omega arith), le-ltb a 0xe0 (omega arith), eq-eqb a 0xe0 (omega arith))
 
-  first-ed : In 0xed 0xed a → after_first a ≡ 5
+  pub first-ed : In 0xed 0xed a → after_first a ≡ 5
   unfolding after_first
   first-ed h = rw (le-ltb a 0x80 (omega arith), le-ltb a 0xc2 (omega arith), le-ltb a 0xe0 (omega arith), ne_eqb a 0xe0 (λ e. omega arith), eq-eqb a 0xed (omega arith))
 
-  first-3 : In 0xe1 0xef a → (a ≡ 0xed → ⊥) → after_first a ≡ 2
+  pub first-3 : In 0xe1 0xef a → (a ≡ 0xed → ⊥) → after_first a ≡ 2
   unfolding after_first
   first-3 h x = rw (le-ltb a 0x80 (omega arith), le-ltb a 0xc2 (omega arith), le-ltb a 0xe0 (omega arith), ne_eqb a 0xe0 (λ e. omega arith), ne_eqb a 0xed x, lt-ltb a 0xf0 (omega arith))
 
-  first-f0 : In 0xf0 0xf0 a → after_first a ≡ 6
+  pub first-f0 : In 0xf0 0xf0 a → after_first a ≡ 6
   unfolding after_first
   first-f0 h = rw (le-ltb a 0x80 (omega arith), le-ltb a 0xc2 (omega arith), le-ltb a 0xe0 (omega arith), ne_eqb a 0xe0 (λ e. omega arith), ne_eqb a 0xed (λ e. omega arith), le-ltb a 0xf0 (omega arith), eq-eqb a 0xf0 (omega arith))
 
-  first-4 : In 0xf1 0xf3 a → after_first a ≡ 3
+  pub first-4 : In 0xf1 0xf3 a → after_first a ≡ 3
   unfolding after_first
   first-4 h = rw (le-ltb a 0x80 (omega arith), le-ltb a 0xc2 (omega arith), le-ltb a 0xe0 (omega arith), ne_eqb a 0xe0 (λ e. omega arith), ne_eqb a 0xed (λ e. omega arith), le-ltb a 0xf0 (omega arith), ne_eqb a 0xf0 (λ e. omega arith), lt-ltb a 0xf4 (omega arith))
 
-  first-f4 : In 0xf4 0xf4 a → after_first a ≡ 7
+  pub first-f4 : In 0xf4 0xf4 a → after_first a ≡ 7
   unfolding after_first
   first-f4 h = rw (le-ltb a 0x80 (omega arith), le-ltb a 0xc2 (omega arith), le-ltb a 0xe0 (omega arith), ne_eqb a 0xe0 (λ e. omega arith), ne_eqb a 0xed (λ e. omega arith), le-ltb a 0xf0 (omega arith), ne_eqb a 0xf0 (λ e. omega arith), le-ltb a 0xf4 (omega arith), eq-eqb a 0xf4 (omega arith))
 
@@ -272,6 +272,8 @@ accepted-text s e = rest-text s (back s s0 e)
 
 pub utf8-text : (s : List ℕ) → utf8 s ≡ true ↔ Text s
 utf8-text s = (accepted-text s, accepted)
+
+-- ---- bytes that begin no character
 
 -- ---- what is awaited behind the first byte of a character
 

@@ -1,152 +1,112 @@
 // Text in UTF-8 (RFC 3629, section 4), checked in one pass.
 //
 // Every read is at the index that the count of bytes looked at is, and is followed by a step of one: so each byte is looked at once, and
-// the count that is replied is that index. Bytes are read in two places, `ascii` and `tail`.
+// the count that is replied is that index, the length where the bytes end. Bytes are read in two places, `ascii` and `tail`.
 
 #![tactic(auto)]
 
 ghost use Rattle.std.specs.Prelude.{◌≡◌, true, ◌↔◌, ◌≤◌, length};
 ghost use Rattle.utf8.specs.Utf8.{In, LookedAt, Text, after_first, utf8};
 ghost use Rattle.utf8.specs.Looked.{checked, looked_at};
-ghost use Rattle.utf8.specs.Parts.{Ascii, Reads, TailRead, unpacked};
+ghost use Rattle.utf8.specs.Parts.{Ascii, Reads, TailsRead, unpacked};
 
-// Whether bytes are text in UTF-8, and how many of them were looked at; of a part of the check, whether a text may go on so far, and how many
-// were looked at so far.
+// Whether bytes are text in UTF-8, and how many of them were looked at.
+// (No `Option` and no `Result`: both are answered, of any bytes.)
 #[derive(Clone, Copy)]
 pub struct TextCheck {
     pub valid: bool,
     pub looked: usize,
 }
 
-// A stretch of ASCII was read, and the byte behind it, which is not ASCII and is counted, too; `byte` is 0 where none is.
-#[derive(Clone, Copy)]
-struct Stretch {
-    byte: u8,
-    looked: usize,
-}
-
-// Reads on from `at` while the bytes are ASCII.
-fn ascii(s: &[u8], at: usize) -> Stretch
+// The first byte from `at` on that is not ASCII, and how many bytes are looked at with it; none where all are ASCII.
+fn ascii(s: &[u8], at: usize) -> Option<(u8, usize)>
     requires { at ≤ length s.now }
     ensures { Ascii s.now at result }
 {
-    let mut i = at;
-    while i < s.len() {
+    for i in at..s.len() {
         // A read, and a step of one.
         let b = s[i];
         if 0x80 <= b {
-            return Stretch {
-                byte: b,
-                looked: i + 1,
-            };
+            return Some((b, i + 1));
         }
-        i += 1;
     }
-    Stretch { byte: 0, looked: i }
+    None
 }
 
-// Whether a byte from `lo` to `hi` stands at `i`; where the bytes end there, the text breaks off.
-fn tail(s: &[u8], i: usize, lo: u8, hi: u8) -> TextCheck
-    ensures { TailRead s.now i lo hi result }
+// The place behind the byte at `i`, where one from `lo` to `hi` stands there; else how many bytes are looked at: where they end
+// there, the text breaks off.
+fn tail(s: &[u8], i: usize, lo: u8, hi: u8) -> Result<usize, usize>
+    ensures { (then : _) → TailsRead s.now i lo hi then then result }
 {
     if s.len() <= i {
-        return TextCheck {
-            valid: false,
-            looked: i,
-        };
+        return Err(i);
     }
     // A read, and a step of one.
     let b = s[i];
     let looked = i + 1;
-    if lo <= b {
-        return TextCheck {
-            valid: b <= hi,
-            looked,
-        };
-    }
-    TextCheck {
-        valid: false,
-        looked,
+    if lo <= b && b <= hi {
+        Ok(looked)
+    } else {
+        Err(looked)
     }
 }
 
-// Whether the tails of a character stand at `at`, whose first byte, `b`, announces three bytes. The bounds of the second leave out what
-// fits in two bytes (after E0) and the surrogates (after ED).
-fn tails_of_3(s: &[u8], at: usize, b: u8) -> TextCheck
-    requires { In 0xe0 0xef b }
-    ensures { Reads s.now (after_first b) at 0 result }
+// The tails at `at` of a character of three bytes, the second of which has to lie from `lo` to `hi`.
+fn tails_of_3(s: &[u8], at: usize, lo: u8, hi: u8) -> Result<usize, usize>
+    ensures { TailsRead s.now at lo hi 1 0 result }
 {
-    let lo: u8 = if b == 0xe0 { 0xa0 } else { 0x80 };
-    let hi: u8 = if b == 0xed { 0x9f } else { 0xbf };
-    let second = tail(&*s, at, lo, hi);
-    if second.valid {
-        return tail(&*s, second.looked, 0x80, 0xbf);
-    }
-    second
+    let third = tail(&*s, at, lo, hi)?;
+    tail(&*s, third, 0x80, 0xbf)
 }
 
-// The same where the first byte announces four. The bounds of the second leave out what fits in three bytes (after F0) and what lies
-// above the last character, 10FFFF (after F4).
-fn tails_of_4(s: &[u8], at: usize, b: u8) -> TextCheck
-    requires { In 0xf0 0xf4 b }
-    ensures { Reads s.now (after_first b) at 0 result }
+// The same of a character of four bytes.
+fn tails_of_4(s: &[u8], at: usize, lo: u8, hi: u8) -> Result<usize, usize>
+    ensures { TailsRead s.now at lo hi 2 0 result }
 {
-    let lo: u8 = if b == 0xf0 { 0x90 } else { 0x80 };
-    let hi: u8 = if b == 0xf4 { 0x8f } else { 0xbf };
-    let second = tail(&*s, at, lo, hi);
-    if second.valid {
-        let third = tail(&*s, second.looked, 0x80, 0xbf);
-        if third.valid {
-            return tail(&*s, third.looked, 0x80, 0xbf);
-        }
-        return third;
-    }
-    second
+    let third = tail(&*s, at, lo, hi)?;
+    tails_of_3(&*s, third, 0x80, 0xbf)
 }
 
-// Whether the tails of the character stand at `at` whose first byte is `b`, which is not ASCII. (None begins with a tail, with C0 or C1,
-// whose two bytes would fit in one, or above F4: then no byte is read any more.)
-fn tails(s: &[u8], at: usize, b: u8) -> TextCheck
+// The tails at `at` of the character whose first byte is `b`, which is not ASCII: the place behind them, or how many bytes are looked
+// at. The bounds of the second byte leave out what fits in two bytes (after E0) or three (after F0), the surrogates (after ED) and what
+// lies above the last character, 10FFFF (after F4). None begins with a tail, with C0 or C1, whose two bytes would fit in one, or
+// above F4: then no byte is read any more. (The ranges come first: one table of all is slower where characters have two bytes.)
+fn tails(s: &[u8], at: usize, b: u8) -> Result<usize, usize>
     requires { In 0x80 0xff b }
     ensures { Reads s.now (after_first b) at 0 result }
 {
-    if b < 0xc2 {
-        return TextCheck {
-            valid: false,
-            looked: at,
-        };
+    match b {
+        ..=0xc1 => Err(at),
+        ..=0xdf => tail(&*s, at, 0x80, 0xbf),
+        ..=0xef => match b {
+            0xe0 => tails_of_3(&*s, at, 0xa0, 0xbf),
+            0xed => tails_of_3(&*s, at, 0x80, 0x9f),
+            _ => tails_of_3(&*s, at, 0x80, 0xbf),
+        },
+        ..=0xf4 => match b {
+            0xf0 => tails_of_4(&*s, at, 0x90, 0xbf),
+            0xf4 => tails_of_4(&*s, at, 0x80, 0x8f),
+            _ => tails_of_4(&*s, at, 0x80, 0xbf),
+        },
+        _ => Err(at),
     }
-    if b < 0xe0 {
-        return tail(&*s, at, 0x80, 0xbf);
-    }
-    if b < 0xf0 {
-        return tails_of_3(&*s, at, b);
-    }
-    if 0xf4 < b {
-        return TextCheck {
-            valid: false,
-            looked: at,
-        };
-    }
-    tails_of_4(&*s, at, b)
 }
 
 // What is added to the count where the bytes are no text. (A slice has fewer bytes.)
 const NO_TEXT: usize = 0x8000_0000_0000_0000;
 
-// The check, as one number: a struct is replied by way of memory, and a short name would wait for that.
+// The check, as one number: a struct or a `Result` is replied by way of memory, and a short name would wait for that.
 fn looked(s: &[u8]) -> usize
     ensures { unpacked result ≡ checked s.now }
 {
     let mut stretch = ascii(&*s, 0);
-    while 0x80 <= stretch.byte {
-        let character = tails(&*s, stretch.looked, stretch.byte);
-        if !character.valid {
-            return NO_TEXT + character.looked;
+    while let Some((byte, behind)) = stretch {
+        match tails(&*s, behind, byte) {
+            Ok(next) => stretch = ascii(&*s, next),
+            Err(count) => return NO_TEXT + count,
         }
-        stretch = ascii(&*s, character.looked);
     }
-    stretch.looked
+    s.len()
 }
 
 // Whether `s` is text in UTF-8, and how many of its bytes were looked at: all, or up to and with the first that no text has there after

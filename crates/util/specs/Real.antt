@@ -3,22 +3,19 @@
 use Rattle.std.specs.Prelude.{◌≡◌, refl, Bool, true, false, cond, not, ℕ, ◌*◌, ◌<◌, T, Float}
 use Rattle.std.proofs.Common.{sym, ◌∙◌}
 use Rattle.std.specs.Float.{Format}
+use Rattle.util.specs.declared.Real.{Real}
+use Rattle.util.specs.declared.Real.TheVariants.{Number, Nan}
 use Rattle.std.specs.Float.Ieee.{of_bits, to_bits, nan_bits, is_nan, top}
 use Rattle.std.specs.Float.Ieee.Bits.{nan_bits_is, to_bits-of_bits}
 
--- a float that is no NaN, or the bits of a NaN
-pub data Real : Type 0 where
-  number : Float → Real
-  nan : ℕ → Real
-
--- the real of a bit pattern
-unfoldable pub real_of : Format → ℕ → Real
-real_of f n = cond (nan_bits f n) (nan n) (number (of_bits f n))
+-- the real of a bit pattern: a float that is no NaN, or the bits of a NaN
+unfoldable pub real_of : Format → ℕ → Real Float ℕ
+real_of f n = cond (nan_bits f n) (Nan n) (Number (of_bits f n))
 
 -- its bits
-unfoldable pub bits_of : Format → Real → ℕ
-bits_of f (number x) = to_bits f x
-bits_of f (nan n) = n
+unfoldable pub bits_of : Format → Real Float ℕ → ℕ
+bits_of f (Number x) = to_bits f x
+bits_of f (Nan n) = n
 
 back_at : (f : Format) (n : ℕ) (b : Bool) → nan_bits f n ≡ b → n < 2 * top f → bits_of f (real_of f n) ≡ n
 unfolding real_of bits_of

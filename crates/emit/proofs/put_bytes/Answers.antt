@@ -1,16 +1,13 @@
+use mathlib.Core.Path.{refl, ◌∙◌}
 use Rattle.emit.specs.Laws.{stored, unstored, stopped-past}
-use mathlib.Core.Path.{refl}
-use native.Mathlib.Omega.{arith}
+use Rattle.emit.proofs.put_bytes.Goals.{then-to-count, else-to-count}
 use Rattle.emit.proofs.put_bytes.Goals as goal
 
-pub returns-then-count-gt-PAST : goal.returns-then-count-gt-PAST
-returns-then-count-gt-PAST c = stopped-past _ c.stopped.ensures refl (omega arith)
+pub returns-then-not-has_room : goal.returns-then-not-has_room
+returns-then-not-has_room c = stopped-past _ c.stopped.ensures refl c.if-not-has_room.ensures
 
-pub returns-then-count-to : goal.returns-then-count-to
-returns-then-count-to c = stopped-past _ c.stopped-then-count-to.ensures refl (omega arith)
-
-pub returns-then-to-count : goal.returns-then-to-count
-returns-then-to-count c = stored _ (omega arith) refl c.store.ensures
-
-pub returns-else-to-count : goal.returns-else-to-count
-returns-else-to-count c = unstored _ (omega arith) refl (omega arith)
+pub returns : goal.returns
+returns c = elim c.if-to-count.branch [
+  | then-to-count w ↦ stored _ c.if-not-has_room.ensures refl (w.out-is ∙ w.store.ensures)
+  | else-to-count w ↦ rw w.out-is (unstored _ c.if-not-has_room.ensures refl w.if-to-count.false)
+]

@@ -8,4 +8,4 @@ pub shape_of-out : goal.shape_of-out
 shape_of-out c = (join c.put_longs-t.ensures (join c.put_u32-t.ensures (join c.put_u32-t-2.ensures (join c.put_le-t.ensures c.put_u16.ensures)))).keeps
 
 pub returns : goal.returns
-returns c = known (entry-laid c.args.e (back w32 c.args.e.hreftype c.struct_told-1.given.1.1.0.1 c.unsigned32.ensures) (back w32 c.args.e.next_hash c.struct_told-2-1.given.1.1.1.0.1 c.unsigned32-2.ensures)) (join c.put_longs-t.ensures (join c.put_u32-t.ensures (join c.put_u32-t-2.ensures (join c.put_le-t.ensures c.put_u16.ensures))))
+returns c = known (entry-laid c.args.e (back w32 c.args.e.hreftype c.struct_told-1.given.1.1.0.1 c.cast_unsigned.ensures) (back w32 c.args.e.next_hash c.struct_told-2-1.given.1.1.1.0.1 c.cast_unsigned-2.ensures)) (join c.put_longs-t.ensures (join c.put_u32-t.ensures (join c.put_u32-t-2.ensures (join c.put_le-t.ensures c.put_u16.ensures))))

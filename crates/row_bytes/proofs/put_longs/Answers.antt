@@ -1,5 +1,5 @@
 use Rattle.emit.specs.Laws.{known, join}
-use Rattle.rows.specs.ValueLaws.{shown, long_bytes, one, four, five, six, seven}
+use Rattle.rows.specs.ValueLaws.{shown, long_bytes, one, four, five}
 use Rattle.row_bytes.proofs.put_longs.Goals as goal
 
 pub returns-in-One : goal.returns-in-One
@@ -16,9 +16,3 @@ returns-in-Four c = known (four c.in-Four.is) (join c.put_two-t.ensures c.put_tw
 
 pub returns-in-Five : goal.returns-in-Five
 returns-in-Five c = known (five c.in-Five.is) (join c.put_le-t-in-Five.ensures (join c.put_two-t-in-Five.ensures c.put_two-in-Five.ensures))
-
-pub returns-in-Six : goal.returns-in-Six
-returns-in-Six c = known (six c.in-Six.is) (join c.put_two-t-in-Six.ensures (join c.put_two-t-in-Six-2.ensures c.put_two-in-Six.ensures))
-
-pub returns-in-Seven : goal.returns-in-Seven
-returns-in-Seven c = known (seven c.in-Seven.is) (join c.put_le-t-in-Seven.ensures (join c.put_two-t-in-Seven.ensures (join c.put_two-t-in-Seven-2.ensures c.put_two-in-Seven.ensures)))

@@ -1,4 +1,4 @@
-use Rattle.sheet.proofs.CallLaws.{whole-refused, whole_long, whole-short, whole-done}
+use Rattle.sheet.proofs.CallLaws.{emitted-sound, whole-refused, whole_long, whole-short, whole-done}
 use Rattle.emit.specs.Laws.{known}
 use mathlib.Core.Path.{sym}
 use lib.Seq.{length-take-le}
@@ -6,7 +6,7 @@ use native.Mathlib.Omega.{arith}
 use Rattle.sheet.proofs.finish.Goals as goal
 
 pub returns-then-size-gt-PAST : goal.returns-then-size-gt-PAST
-returns-then-size-gt-PAST c = whole-refused _ _ c.requires.made.measured c.if-size-gt-PAST.true (omega arith)
+returns-then-size-gt-PAST c = whole-refused _ _ (emitted-sound _ _) c.requires.made.measured c.if-size-gt-PAST.true c.refusal.ensures
 
 pub returns-then-size-gt-LIMIT : goal.returns-then-size-gt-LIMIT
 returns-then-size-gt-LIMIT c = whole_long _ _ c.requires.made.measured c.if-size-gt-PAST.false c.if-size-gt-LIMIT.true

@@ -1,11 +1,11 @@
 use Rattle.sheet_bases.proofs.BaseLaws.{chain-is, chain-refused}
 use Rattle.emit.specs.Laws.{known}
-use Rattle.impltypes.specs.Chain.{told_impl_types}
-use mathlib.Core.Path.{ap}
+use Rattle.records.specs.Told.{told}
+use Rattle.std.proofs.Common.{ap}
 use Rattle.sheet_bases.proofs.put_chain.Goals as goal
 
-pub returns-in-Value : goal.returns-in-Value
-returns-in-Value c = known (chain-is _ _ _ _ c.impl_types_at.ensures (ap told_impl_types c.in-Value.is)) c.put_walked.ensures
+pub returns-in-Ok : goal.returns-in-Ok
+returns-in-Ok c = known (chain-is _ _ _ _ c.impl_types_at.ensures (ap told c.in-Ok.is)) c.put_walked.ensures
 
-pub returns-in-Refused : goal.returns-in-Refused
-returns-in-Refused c = known (chain-refused _ _ _ _ c.impl_types_at.ensures (ap told_impl_types c.in-Refused.is)) (c.put_refusal.ensures _)
+pub returns-in-Err : goal.returns-in-Err
+returns-in-Err c = known (chain-refused _ _ _ _ c.impl_types_at.ensures (ap told c.in-Err.is)) (c.put_refusal.ensures _)

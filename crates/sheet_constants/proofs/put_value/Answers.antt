@@ -1,7 +1,7 @@
+use Rattle.std.proofs.Common.{ap}
 use Rattle.sheet_constants.specs.Laws.{empty-laid, number-laid, bit-laid, octets-laid, shown-laid}
 use Rattle.sheet_constants.specs.Told.{told_shape}
 use Rattle.emit.specs.Laws.{skip, known}
-use mathlib.Core.Path.{ap}
 use Rattle.sheet_constants.proofs.put_value.Goals as goal
 
 pub returns-in-Empty : goal.returns-in-Empty

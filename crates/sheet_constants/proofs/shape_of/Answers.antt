@@ -1,5 +1,5 @@
+use Rattle.std.proofs.Common.{rules, sym, ap, ◌∙◌}
 use Rattle.sheet_constants.specs.Laws.{marked, mark-is, mark-other}
-use mathlib.Core.Path.{sym, ap, ◌∙◌}
 use Rattle.sheet_constants.proofs.shape_of.Goals as goal
 
 pub returns-in-0 : goal.returns-in-0
@@ -15,4 +15,4 @@ pub returns-in-116 : goal.returns-in-116
 returns-in-116 c = ap marked (sym c.in-116.is) ∙ mark-is c.args.code c.mark_of-mark.ensures
 
 pub returns-in_default : goal.returns-in_default
-returns-in_default c = mark-other _ c.in_default.in_default-own.rest.0.0.0.1 c.in_default.in_default-own.rest.0.0.1 c.in_default.in_default-own.rest.0.1 c.in_default.in_default-own.rest.1 ∙ mark-is c.args.code c.mark_of-mark.ensures
+returns-in_default c = mark-other _ (search rules) (search rules) (search rules) (search rules) ∙ mark-is c.args.code c.mark_of-mark.ensures

@@ -11,12 +11,6 @@ loop-i-init c = (left-all, search rules)
 pub returns-then-c-gt-PAST : goal.returns-then-c-gt-PAST
 returns-then-c-gt-PAST c = known (types-all _ (library c.args.lib.now) _) (left-stopped c.loop-i.invariant.0 c.if-c-gt-PAST.true)
 
-pub overflow_add-i : goal.overflow_add-i
-overflow_add-i c = omega arith
-
-pub loop-i-smaller : goal.loop-i-smaller
-loop-i-smaller c = omega arith
-
 pub loop-i-preserved : goal.loop-i-preserved
 loop-i-preserved c = (left_less c.loop-i.invariant.0 c.after_type_of-c.ensures (types_more _ _ _ _ (omega (arith, c.loop-i-test.true, c.loop-i.invariant.1))), c.loop-i.invariant.1)
 

@@ -7,10 +7,6 @@ use Rattle.sheet_sizes.proofs.ahead.Goals as goal
 pub returns-then-to-n : goal.returns-then-to-n
 returns-then-to-n c = advance-to _ _ (omega arith)
 
-pub returns-then-to-lt-PAST : goal.returns-then-to-lt-PAST
+pub returns : goal.returns
 unfolding advance
-returns-then-to-lt-PAST c = elim c.if-n-le-PAST.branch [ then-n-le-PAST+else-to-n w ↦ omega arith | else-n-le-PAST w ↦ omega arith ]
-
-pub returns-else-to-lt-PAST : goal.returns-else-to-lt-PAST
-unfolding advance
-returns-else-to-lt-PAST c = elim c.if-n-le-PAST.branch [ then-n-le-PAST+else-to-n w ↦ omega arith | else-n-le-PAST w ↦ omega arith ]
+returns c = elim c.if-n-le-PAST.branch [ then-n-le-PAST+else-to-n w ↦ omega arith | else-n-le-PAST w ↦ omega arith ]

@@ -1,12 +1,7 @@
-use mathlib.Core.Path.{◌≡◌}
-use Prim.Native.Nat.{◌≤◌, ◌-◌}
-use lib.ListN.{replicate}
+use Rattle.std.specs.Prelude.{◌≡◌, replicate}
 use Rattle.typelib.specs.Tabulate.{filled}
 use Rattle.typelib.specs.Header.{pair_at}
 use Rattle.typelib.proofs.numbers_at.Given as goal
 
 abbrev pub invariant-loop-i : goal.invariant-loop-i
-invariant-loop-i l = (l.i ≤ 30) × (l.initial.numbers ≡ replicate 32 0) × (l.numbers ≡ filled (pair_at l.s l.at) l.i l.initial.numbers)
-
-abbrev pub decreases-loop-i : goal.decreases-loop-i
-decreases-loop-i l = 30 - l.i
+invariant-loop-i l = (l.initial.numbers ≡ replicate 32 0) × (l.numbers ≡ filled (pair_at l.s l.at) l.i l.initial.numbers)

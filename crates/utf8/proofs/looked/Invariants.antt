@@ -1,6 +1,4 @@
-use Prim.Native.Nat.{◌-◌}
-use lib.ListN.{length}
-use Rattle.utf8.specs.Parts.{Ascii}
+use Rattle.utf8.specs.Parts.{Ascii, left_behind}
 use Rattle.utf8.proofs.looked.Given as goal
 
 -- the stretch tells of all bytes before it
@@ -8,4 +6,4 @@ abbrev pub invariant-loop-stretch : goal.invariant-loop-stretch
 invariant-loop-stretch l = Ascii l.s 0 l.stretch
 
 abbrev pub decreases-loop-stretch : goal.decreases-loop-stretch
-decreases-loop-stretch l = length l.s - l.stretch.looked
+decreases-loop-stretch l = left_behind l.s l.stretch

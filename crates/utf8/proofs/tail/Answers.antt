@@ -1,13 +1,12 @@
-use mathlib.Core.Path.{refl}
 use native.Mathlib.Omega.{arith}
-use Rattle.utf8.specs.Parts.{tail-end, tail-below, tail_from}
+use Rattle.utf8.specs.Parts.{tail-end, tail-outside, tail-inside}
 use Rattle.utf8.proofs.tail.Goals as goal
 
 pub returns-then-s-i : goal.returns-then-s-i
-returns-then-s-i c = tail-end _ _ _ _ c.if-s-i.true
+returns-then-s-i c = λ then. tail-end _ _ _ _ then c.if-s-i.true
 
-pub returns-then-lo-b : goal.returns-then-lo-b
-returns-then-lo-b c = tail_from _ _ _ _ (omega arith) c.if-lo-b.true _ refl
+pub returns-then-b-hi : goal.returns-then-b-hi
+returns-then-b-hi c = λ then. tail-inside _ _ _ _ then (omega arith) (omega arith) (omega arith)
 
-pub returns : goal.returns
-returns c = tail-below _ _ _ _ (omega arith) (omega arith)
+pub returns-else-lo-b : goal.returns-else-lo-b
+returns-else-lo-b c = λ then. tail-outside _ _ _ _ then (omega arith) c.else-lo-b.either

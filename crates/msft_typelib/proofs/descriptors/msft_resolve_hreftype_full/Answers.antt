@@ -1,10 +1,13 @@
-use Rattle.replies.specs.CallLaws.{laid-after, library-is, number_is}
-use Rattle.rows.specs.Values.{reference}
+use Rattle.std.proofs.Common.{ap, of_calls, of_z, refl, ◌∙◌}
+use Rattle.std.specs.Int.{w32}
 use Rattle.records.specs.Answer.{map}
-use mathlib.Core.Path.{◌∙◌, ap}
-use mir.Syntax.{w32}
-use mir.ValLaws.{to_z-of_z}
+use Rattle.replies.specs.CallLaws.{laid_as}
+use Rattle.replies.specs.ParseLaws.{library-read}
+use Rattle.rows.specs.ToldLaws.{resolved-told}
+use Rattle.rows.specs.Values.{reference}
+use Rattle.typelib.specs.References.{href_resolved}
+use Rattle.typelib.specs.Told.{told_resolved}
 use Rattle.msft_typelib.proofs.descriptors.msft_resolve_hreftype_full.Goals as goal
 
 pub returns : goal.returns
-returns c = let h = rw (to_z-of_z w32 c.args.hreftype c.ranges.hreftype) at c.resolve_hreftype_full.ensures in rw (library-is c.args.s.now c.parse-p.result c.parse-p.ensures, number_is c.args.s.now c.parse-p.result c.parse-p.ensures) (laid-after _ _ c.lay_behind.ensures (c.of_resolved.ensures ∙ ap (map reference) (h)))
+returns c = laid_as _ c.lay.ensures (c.of.ensures ∙ resolved-told reference _ ∙ library-read (λ a. map reference (told_resolved a)) (λ lib. map reference (href_resolved c.args.s.now lib (of_z w32 c.args.hreftype))) c.args.s.now c.parse.result c.parse.ensures c.and_then.ensures (λ lib h. ap (map reference) (search of_calls)) (λ e. refl))

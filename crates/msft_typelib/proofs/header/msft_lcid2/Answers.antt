@@ -1,5 +1,9 @@
-use Rattle.replies.specs.CallLaws.{number_is, replied}
+use Rattle.std.proofs.Common.{ap, of_calls, refl, ◌∙◌}
+use Rattle.records.specs.Told.{told}
+use Rattle.replies.specs.Call.{reply}
+use Rattle.replies.specs.ParseLaws.{library-read}
+use Rattle.typelib.specs.Header.{header_field}
 use Rattle.msft_typelib.proofs.header.msft_lcid2.Goals as goal
 
 pub returns : goal.returns
-returns c = rw (number_is c.args.s.now c.parse-p.result c.parse-p.ensures) (replied _ c.behind.ensures c.of_u32.ensures c.lcid2.ensures)
+returns c = c.of.ensures ∙ ap reply (library-read told (λ _. header_field "lcid2" c.args.s.now) c.args.s.now c.parse.result c.parse.ensures c.and_then.ensures (λ lib h. search of_calls) (λ e. refl))

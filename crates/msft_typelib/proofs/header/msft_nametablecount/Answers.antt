@@ -1,7 +1,10 @@
-use Rattle.replies.specs.Call.{bits32}
-use Rattle.replies.specs.CallLaws.{number_is, replied}
-use mathlib.Core.Path.{ap}
+use Rattle.std.proofs.Common.{ap, of_calls, refl, ◌∙◌}
+use Rattle.records.specs.Record.{signed32}
+use Rattle.records.specs.Told.{told}
+use Rattle.replies.specs.Call.{bits32, reply}
+use Rattle.replies.specs.ParseLaws.{library-read}
+use Rattle.typelib.specs.Header.{header_field}
 use Rattle.msft_typelib.proofs.header.msft_nametablecount.Goals as goal
 
 pub returns : goal.returns
-returns c = rw (number_is c.args.s.now c.parse-p.result c.parse-p.ensures) (replied _ c.behind.ensures c.of_i32.ensures (ap bits32 c.nametablecount.ensures))
+returns c = c.of.ensures ∙ ap reply (library-read (λ a. bits32 (told a)) (λ _. bits32 (signed32 (header_field "nametablecount" c.args.s.now))) c.args.s.now c.parse.result c.parse.ensures c.and_then.ensures (λ lib h. ap bits32 (search of_calls)) (λ e. refl))

@@ -1,5 +1,11 @@
-use Rattle.replies.specs.CallLaws.{number_is, replied}
+use Rattle.std.proofs.Common.{ap, of_calls, refl, ◌∙◌}
+use Rattle.records.specs.Answer.{map}
+use Rattle.records.specs.Record.{bits_of}
+use Rattle.records.specs.Told.{told}
+use Rattle.replies.specs.Call.{reply}
+use Rattle.replies.specs.ParseLaws.{library-read}
+use Rattle.typelib.specs.Header.{header_field}
 use Rattle.msft_typelib.proofs.header.msft_version_major.Goals as goal
 
 pub returns : goal.returns
-returns c = rw (number_is c.args.s.now c.parse-p.result c.parse-p.ensures) (replied _ c.behind.ensures c.of_u16.ensures c.version_major.ensures)
+returns c = c.of.ensures ∙ ap reply (library-read told (λ _. map (bits_of 0 16) (header_field "version" c.args.s.now)) c.args.s.now c.parse.result c.parse.ensures c.and_then.ensures (λ lib h. search of_calls) (λ e. refl))

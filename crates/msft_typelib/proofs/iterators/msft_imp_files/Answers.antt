@@ -1,8 +1,11 @@
-use mathlib.Core.Path.{ap, ◌∙◌}
+use Rattle.std.proofs.Common.{ap, of_calls, refl, ◌∙◌}
 use Rattle.records.specs.Answer.{map}
+use Rattle.records.specs.Told.{told}
+use Rattle.replies.specs.CallLaws.{laid_as}
+use Rattle.replies.specs.ParseLaws.{library-read}
 use Rattle.rows.specs.Values.{cursor, imp_file_numbers}
-use Rattle.replies.specs.CallLaws.{laid-after, library-is, number_is}
+use Rattle.table_cursors.specs.Cursors.{imp_files_of}
 use Rattle.msft_typelib.proofs.iterators.msft_imp_files.Goals as goal
 
 pub returns : goal.returns
-returns c = rw (library-is c.args.s.now c.parse-p.result c.parse-p.ensures, number_is c.args.s.now c.parse-p.result c.parse-p.ensures) (laid-after _ _ c.lay_behind.ensures (c.of_imp_files.ensures ∙ ap (map (cursor imp_file_numbers)) c.imp_files.ensures))
+returns c = laid_as _ c.lay.ensures (c.of_cursor.ensures ∙ library-read (λ a. map (cursor imp_file_numbers) (told a)) (λ lib. map (cursor imp_file_numbers) (imp_files_of c.args.s.now lib)) c.args.s.now c.parse.result c.parse.ensures c.and_then.ensures (λ lib h. ap (map (cursor imp_file_numbers)) (search of_calls)) (λ e. refl))

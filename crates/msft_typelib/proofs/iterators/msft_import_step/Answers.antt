@@ -1,7 +1,8 @@
+use Rattle.std.proofs.Common.{ap, ◌∙◌}
 use Rattle.replies.specs.CallLaws.{laid_as}
+use Rattle.rows.specs.ToldLaws.{import-step-told}
 use Rattle.rows.specs.Values.{import_numbers, step}
-use mathlib.Core.Path.{◌∙◌, ap}
 use Rattle.msft_typelib.proofs.iterators.msft_import_step.Goals as goal
 
 pub returns : goal.returns
-returns c = laid_as _ c.lay.ensures (c.of_import_step.ensures ∙ ap (step import_numbers) c.step.ensures)
+returns c = laid_as _ c.lay.ensures (c.of_step.ensures ∙ ap (step import_numbers) (import-step-told _ ∙ c.step.ensures))

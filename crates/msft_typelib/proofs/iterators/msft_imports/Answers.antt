@@ -1,8 +1,11 @@
-use mathlib.Core.Path.{ap, ◌∙◌}
+use Rattle.std.proofs.Common.{ap, of_calls, refl, ◌∙◌}
 use Rattle.records.specs.Answer.{map}
+use Rattle.records.specs.Told.{told}
+use Rattle.replies.specs.CallLaws.{laid_as}
+use Rattle.replies.specs.ParseLaws.{library-read}
 use Rattle.rows.specs.Values.{cursor, import_numbers}
-use Rattle.replies.specs.CallLaws.{laid-after, library-is, number_is}
+use Rattle.table_cursors.specs.Cursors.{imports_of}
 use Rattle.msft_typelib.proofs.iterators.msft_imports.Goals as goal
 
 pub returns : goal.returns
-returns c = rw (library-is c.args.s.now c.parse-p.result c.parse-p.ensures, number_is c.args.s.now c.parse-p.result c.parse-p.ensures) (laid-after _ _ c.lay_behind.ensures (c.of_imports.ensures ∙ ap (map (cursor import_numbers)) c.imports.ensures))
+returns c = laid_as _ c.lay.ensures (c.of_cursor.ensures ∙ library-read (λ a. map (cursor import_numbers) (told a)) (λ lib. map (cursor import_numbers) (imports_of c.args.s.now lib)) c.args.s.now c.parse.result c.parse.ensures c.and_then.ensures (λ lib h. ap (map (cursor import_numbers)) (search of_calls)) (λ e. refl))

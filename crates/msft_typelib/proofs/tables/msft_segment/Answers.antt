@@ -1,8 +1,11 @@
-use Rattle.replies.specs.CallLaws.{laid-after, library-is, number_is}
-use Rattle.rows.specs.Values.{place}
+use Rattle.std.proofs.Common.{ap, of_calls, refl, ◌∙◌}
 use Rattle.records.specs.Answer.{map}
-use mathlib.Core.Path.{◌∙◌, ap}
+use Rattle.records.specs.Told.{told}
+use Rattle.replies.specs.CallLaws.{laid_as}
+use Rattle.replies.specs.ParseLaws.{library-read}
+use Rattle.rows.specs.Values.{place}
+use Rattle.typelib.specs.Tables.{segment_of}
 use Rattle.msft_typelib.proofs.tables.msft_segment.Goals as goal
 
 pub returns : goal.returns
-returns c = rw (library-is c.args.s.now c.parse-p.result c.parse-p.ensures, number_is c.args.s.now c.parse-p.result c.parse-p.ensures) (laid-after _ _ c.lay_behind.ensures (c.of_place.ensures ∙ ap (map place) c.segment.ensures))
+returns c = laid_as _ c.lay.ensures (c.of.ensures ∙ library-read (λ a. map place (told a)) (λ lib. map place (segment_of lib c.args.index)) c.args.s.now c.parse.result c.parse.ensures c.and_then.ensures (λ lib h. ap (map place) (search of_calls)) (λ e. refl))

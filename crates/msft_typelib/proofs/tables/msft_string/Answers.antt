@@ -1,10 +1,12 @@
-use Rattle.replies.specs.CallLaws.{laid-after, library-is, number_is}
-use Rattle.rows.specs.Values.{place}
+use Rattle.std.proofs.Common.{ap, of_calls, of_z, refl, ◌∙◌}
+use Rattle.std.specs.Int.{w32}
 use Rattle.records.specs.Answer.{map}
-use mathlib.Core.Path.{◌∙◌, ap}
-use mir.Syntax.{w32}
-use mir.ValLaws.{to_z-of_z}
+use Rattle.records.specs.Told.{told}
+use Rattle.replies.specs.CallLaws.{laid_as}
+use Rattle.replies.specs.ParseLaws.{library-read}
+use Rattle.rows.specs.Values.{place}
+use Rattle.typelib.specs.Names.{string_text}
 use Rattle.msft_typelib.proofs.tables.msft_string.Goals as goal
 
 pub returns : goal.returns
-returns c = let h = rw (to_z-of_z w32 c.args.offset c.ranges.offset) at c.string.ensures in rw (library-is c.args.s.now c.parse-p.result c.parse-p.ensures, number_is c.args.s.now c.parse-p.result c.parse-p.ensures) (laid-after _ _ c.lay_behind.ensures (c.of_place.ensures ∙ ap (map place) (h)))
+returns c = laid_as _ c.lay.ensures (c.of.ensures ∙ library-read (λ a. map place (told a)) (λ lib. map place (string_text c.args.s.now lib (of_z w32 c.args.offset))) c.args.s.now c.parse.result c.parse.ensures c.and_then.ensures (λ lib h. ap (map place) (search of_calls)) (λ e. refl))

@@ -1,19 +1,18 @@
-use mathlib.Core.Path.{sym}
-use lib.Seq.{length-take-le}
-use native.Mathlib.Omega.{arith}
+use Rattle.std.proofs.Common.{arith, sym, ap, length-take-le}
 use Rattle.rows.specs.Told.{told_row}
-use Rattle.replies.specs.LayLaws.{lay_done, lay-no-room, lay-declined}
-use Rattle.rows.specs.RowLaws.{row-short}
+use Rattle.rows.specs.RowLaws.{bytes-short}
+use Rattle.replies.specs.CallLaws.{laid_as, refusal-byte}
+use Rattle.replies.specs.LayLaws.{row-done, row-no-room, row-refused}
 use Rattle.replies.proofs.reply.lay.Goals as goal
 
-pub returns-then-size-gt-PAST : goal.returns-then-size-gt-PAST
-returns-then-size-gt-PAST c = lay-declined (told_row c.args.row) _ _ c.put_row-size.ensures c.if-size-gt-PAST.true c.minus.ensures
+pub returns-in-Err : goal.returns-in-Err
+returns-in-Err c = laid_as _ (row-refused _ _ (refusal-byte _) c.minus.ensures) (ap told_row (sym c.in-Err.is))
 
 pub returns-then-out-size : goal.returns-then-out-size
-returns-then-out-size c = lay-no-room (told_row c.args.row) _ _ c.put_row-size.ensures (row-short c.args.row) c.if-size-gt-PAST.false c.if-out-size.true c.minus-then-out-size.ensures
+returns-then-out-size c = laid_as _ (row-no-room _ _ _ (bytes-short c.in-Ok.row) c.put_row-size.ensures c.if-out-size.true c.minus-then-out-size.ensures) (ap told_row (sym c.in-Ok.is))
 
 pub slice_bounds-put_row-end-3 : goal.slice_bounds-put_row-end-3
 slice_bounds-put_row-end-3 c = sym (length-take-le _ _ c.if-out-size.false)
 
 pub returns : goal.returns
-returns c = lay_done (told_row c.args.row) _ _ c.put_row-size.ensures (row-short c.args.row) c.if-size-gt-PAST.false c.if-out-size.false (omega arith) c.put_row.ensures
+returns c = laid_as _ (row-done _ _ _ (bytes-short c.in-Ok.row) c.put_row-size.ensures c.if-out-size.false (omega arith) c.put_row.ensures) (ap told_row (sym c.in-Ok.is))

@@ -1,10 +1,7 @@
-use Rattle.sheet_constants.proofs.Floats.{no_nan, only_nan}
-use lib.Ieee.{to_bits}
+use Rattle.std.specs.Float.Ieee.{to_bits}
+use Rattle.sheet_constants.proofs.Floats.{only_nan}
 use Rattle.sheet_constants.proofs.bits.of_f64.Goals as goal
 
-pub float_to_bits-result : goal.float_to_bits-result
-float_to_bits-result c = no_nan _ c.if-x.true
-
-pub returns-else-x : goal.returns-else-x
+pub returns-then-is_nan : goal.returns-then-is_nan
 unfolding to_bits
-returns-else-x c = rw (only_nan c.args.x c.if-x.false)
+returns-then-is_nan c = rw (only_nan c.args.x c.is_nan.ensures.value c.if-is_nan.true)

@@ -1,6 +1,6 @@
 use Rattle.emit.specs.Laws.{known, join}
 use Rattle.sheet_members.proofs.MemberLaws.{words-is}
-use native.Mathlib.Omega.{arith}
+use Rattle.std.proofs.Common.{arith}
 use Rattle.sheet_members.proofs.functions.put_words.Goals as goal
 
 pub returns : goal.returns

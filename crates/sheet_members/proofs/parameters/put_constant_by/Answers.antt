@@ -1,3 +1,4 @@
+use Rattle.std.proofs.Common.{rules}
 use Rattle.sheet_members.proofs.MemberLaws.{constant-by, constant-missing}
 use Rattle.typelib.specs.TableLaws.{pattern}
 use Rattle.emit.specs.Laws.{known}
@@ -7,4 +8,4 @@ pub returns-in_default : goal.returns-in_default
 returns-in_default c = known (constant-missing _ _ c.in_default.is) c.put_u8.ensures
 
 pub returns : goal.returns
-returns c = known (constant-by _ _ c.in-Value.is (pattern c.in-Value.x _ (record { sfits = c.in-Value.known_told-1-own.given.0.1 }) c.unsigned32.ensures)) c.put_opt_constant.ensures
+returns c = known (constant-by _ _ c.in-Ok.is (pattern c.in-Ok.x _ (search rules) c.cast_unsigned.ensures)) c.put_opt_constant.ensures

@@ -1,5 +1,5 @@
 use Rattle.typelib.specs.Header.{library}
-use native.Mathlib.Omega.{arith}
+use Rattle.std.proofs.Common.{arith}
 use Rattle.emit.specs.Laws.{left-all, left_less, left-none, known}
 use Rattle.sheet_members.proofs.ParameterLaws.{laid-all, laid_one, laid_end}
 use Rattle.sheet_members.proofs.parameters.put_each.Goals as goal
@@ -15,12 +15,6 @@ overflow_add-cursor c = omega (arith, c.requires.room.whole, c.requires.room.ins
 
 pub put_parameter-t-requires : goal.put_parameter-t-requires
 put_parameter-t-requires c = c.requires.near
-
-pub overflow_add-i : goal.overflow_add-i
-overflow_add-i c = omega arith
-
-pub loop-i-smaller : goal.loop-i-smaller
-loop-i-smaller c = omega arith
 
 pub loop-i-preserved : goal.loop-i-preserved
 loop-i-preserved c = left_less c.loop-i.invariant c.put_parameter-t.ensures (laid_one _ _ _ _ _ c.requires.room c.loop-i-test.true)

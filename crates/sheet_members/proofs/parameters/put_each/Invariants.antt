@@ -1,5 +1,4 @@
 use Rattle.typelib.specs.Header.{library}
-use Prim.Native.Nat.{◌-◌}
 use Rattle.emit.specs.Emit.{put}
 use Rattle.emit.specs.Laws.{Left}
 use Rattle.sheet_members.proofs.ParameterLaws.{laid_from}
@@ -7,6 +6,3 @@ use Rattle.sheet_members.proofs.parameters.put_each.Given as goal
 
 abbrev pub invariant-loop-i : goal.invariant-loop-i
 invariant-loop-i l = Left (laid_from l.s l.cursor (library l.lib) l.func 0) (put l.initial.t) l.initial.out (laid_from l.s l.cursor (library l.lib) l.func l.i) (put l.t) l.out
-
-abbrev pub decreases-loop-i : goal.decreases-loop-i
-decreases-loop-i l = l.cursor.remaining - l.i

@@ -1,4 +1,4 @@
-use native.Mathlib.Omega.{arith}
+use Rattle.std.proofs.Common.{arith}
 use Rattle.emit.specs.Laws.{known, join}
 use Rattle.sheet_members.proofs.MemberLaws.{parameter-is, default-set, default-unset}
 use Rattle.sheet_members.proofs.parameters.put_parameter.Goals as goal

@@ -1,3 +1,4 @@
+use Rattle.std.proofs.Common.{rules}
 use Rattle.emit.specs.Laws.{known}
 use Rattle.typelib.specs.TableLaws.{pattern}
 use Rattle.sheet_trees.proofs.PartLaws.{name-by, name-missing}
@@ -7,4 +8,4 @@ pub returns-in_default : goal.returns-in_default
 returns-in_default c = known (name-missing _ _ c.in_default.is) c.put_u8.ensures
 
 pub returns : goal.returns
-returns c = known (name-by _ _ c.in-Value.is (pattern c.in-Value.x _ (record { sfits = c.in-Value.known_told-1-own.given.0.1 }) c.unsigned32.ensures)) c.put_opt_name.ensures
+returns c = known (name-by _ _ c.in-Ok.is (pattern c.in-Ok.x _ (search rules) c.cast_unsigned.ensures)) c.put_opt_name.ensures

@@ -21,9 +21,9 @@ use Rattle.sheet_sizes.proofs.functions.after_each.Goals as goal
 pub loop-t-init : goal.loop-t-init
 loop-t-init c = let z = c.requires in (λ ti k. subst (λ (n : ℕ). Left (from (func_step c.args.s.now) (λ (x : FuncCursor). x.remaining) (function_figures (type_count (library c.args.lib.now))) (function_of c.args.s.now (library c.args.lib.now) ti) 0 c.args.cursor) c.args.from (from (func_step c.args.s.now) (λ (x : FuncCursor). x.remaining) (function_figures (type_count (library c.args.lib.now))) (function_of c.args.s.now (library c.args.lib.now) ti) n c.args.cursor) c.args.from) (sym z) left-all, omega (arith, z), omega arith)
 
-pub returns-then-t-gt-PAST : goal.returns-then-t-gt-PAST
+pub returns-after-loop-t : goal.returns-after-loop-t
 unfolding functions_from
-returns-then-t-gt-PAST c = left-stopped (c.loop-t.invariant.0 _ c.func_rows-rows.ensures) c.if-t-gt-PAST.true
+returns-after-loop-t c = left-stopped (c.loop-t.invariant.0 _ c.func_rows-rows.ensures) (omega (arith, c.loop-t-test.false))
 
 pub returns-in_default : goal.returns-in_default
 unfolding functions_from

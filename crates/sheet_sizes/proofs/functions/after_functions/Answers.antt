@@ -1,6 +1,6 @@
 use Rattle.sheet_sizes.proofs.CountLaws.{ahead-measured, known, then, bytes}
 use Rattle.sheet_sizes.proofs.MemberLaws.{functions-some, functions-empty, functions-none}
-use Rattle.cursors.specs.Told.{told_funcs}
+use Rattle.records.specs.Told.{told}
 use Rattle.describe.specs.Answers.{answers-value}
 use Rattle.describe.specs.MemberNumbers.{funcs-begun}
 use mathlib.Core.Path.{sym, ◌∙◌, ap, refl}
@@ -8,13 +8,13 @@ use mathlib.Core.List.{[], ◌∷◌}
 use Rattle.sheet_sizes.proofs.functions.after_functions.Goals as goal
 
 pub returns-then-cursor-eq0 : goal.returns-then-cursor-eq0
-returns-then-cursor-eq0 c = rw c.moved-begun.ensures (known (functions-empty _ _ _ _ c.funcs.ensures (ap told_funcs c.in-Value.is) c.if-cursor-eq0.true) (bytes _ _ (ahead-measured _ c.ahead.ensures (0 ∷ 0 ∷ []) refl)))
+returns-then-cursor-eq0 c = rw c.moved-begun.ensures (known (functions-empty _ _ _ _ c.funcs.ensures (ap told c.in-Ok.is) c.if-cursor-eq0.true) (bytes _ _ (ahead-measured _ c.ahead.ensures (0 ∷ 0 ∷ []) refl)))
 
 pub after_each-requires : goal.after_each-requires
-after_each-requires c = answers-value (funcs-begun c.args.s.now c.args.ti) (sym c.funcs.ensures ∙ ap told_funcs c.in-Value.is)
+after_each-requires c = answers-value (funcs-begun c.args.s.now c.args.ti) (sym c.funcs.ensures ∙ ap told c.in-Ok.is)
 
 pub returns-else-cursor-eq0 : goal.returns-else-cursor-eq0
-returns-else-cursor-eq0 c = known (functions-some _ _ _ _ c.funcs.ensures (ap told_funcs c.in-Value.is)) (then (bytes c.args.from _ (ahead-measured _ c.ahead.ensures (0 ∷ 0 ∷ []) refl)) (rw c.moved-begun.ensures at c.after_each.ensures))
+returns-else-cursor-eq0 c = known (functions-some _ _ _ _ c.funcs.ensures (ap told c.in-Ok.is)) (then (bytes c.args.from _ (ahead-measured _ c.ahead.ensures (0 ∷ 0 ∷ []) refl)) (rw c.moved-begun.ensures at c.after_each.ensures))
 
-pub returns-in-Refused : goal.returns-in-Refused
-returns-in-Refused c = rw c.moved-begun.ensures (known (functions-none _ _ _ _ c.funcs.ensures (ap told_funcs c.in-Refused.is)) (bytes _ _ (ahead-measured _ c.ahead.ensures (0 ∷ 0 ∷ []) refl)))
+pub returns-in-Err : goal.returns-in-Err
+returns-in-Err c = rw c.moved-begun.ensures (known (functions-none _ _ _ _ c.funcs.ensures (ap told c.in-Err.is)) (bytes _ _ (ahead-measured _ c.ahead.ensures (0 ∷ 0 ∷ []) refl)))

@@ -1,12 +1,10 @@
-use mathlib.Core.Path.{refl}
-use Rattle.sheet_sizes.proofs.CountLaws.{ahead-measured}
-use Rattle.emit.specs.Laws.{known}
-use Rattle.description.specs.Format.{length-le_bytes}
-use Rattle.sheet_trees.proofs.PartLaws.{memid-is, memid-missing}
+use Rattle.std.proofs.Common.{ap}
+use Rattle.records.specs.Told.{told}
+use Rattle.sheet_sizes.proofs.SizeLaws.{memid-there, memid-missing}
 use Rattle.sheet_sizes.proofs.names.after_memid.Goals as goal
 
-pub returns-in-Value : goal.returns-in-Value
-returns-in-Value c = known (memid-is c.in-Value.is refl) (ahead-measured _ c.ahead.ensures _ (length-le_bytes 5 _))
+pub returns-in-Ok : goal.returns-in-Ok
+returns-in-Ok c = memid-there _ _ (ap told c.in-Ok.is) c.ahead.ensures
 
-pub returns-in-Refused : goal.returns-in-Refused
-returns-in-Refused c = known (memid-missing c.in-Refused.is) (ahead-measured _ c.ahead-in-Refused.ensures _ refl)
+pub returns-in-Err : goal.returns-in-Err
+returns-in-Err c = memid-missing _ _ (ap told c.in-Err.is) c.ahead-in-Err.ensures

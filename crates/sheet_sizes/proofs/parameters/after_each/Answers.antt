@@ -16,12 +16,6 @@ overflow_add-cursor c = omega (arith, c.requires.room.whole, c.requires.room.ins
 pub after_parameter-t-requires : goal.after_parameter-t-requires
 after_parameter-t-requires c = c.requires.near
 
-pub overflow_add-i : goal.overflow_add-i
-overflow_add-i c = omega arith
-
-pub loop-i-smaller : goal.loop-i-smaller
-loop-i-smaller c = omega arith
-
 pub loop-i-preserved : goal.loop-i-preserved
 loop-i-preserved c = λ k. left_less (c.loop-i.invariant k) (c.after_parameter-t.ensures.is k) (parameters-one _ _ _ _ _ c.requires.room c.loop-i-test.true)
 

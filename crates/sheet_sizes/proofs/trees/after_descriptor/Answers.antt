@@ -1,4 +1,6 @@
-use Rattle.sheet_sizes.proofs.TreeLaws.{ahead-most}
+use Rattle.std.specs.Prelude.{Some}
+use Rattle.sheet_sizes.proofs.TreeLaws.{ahead-most, over-one}
+use Rattle.sheet_sizes.specs.Trees.{LevelCounted}
 use Rattle.sheet_sizes.specs.Counts.{measured}
 use native.Mathlib.Omega.{arith}
 use mathlib.Core.Path.{refl, sym, ◌∙◌}
@@ -15,16 +17,14 @@ pub overflow_add-result : goal.overflow_add-result
 overflow_add-result c = omega (arith, ahead-most _ _ c.requires c.after_user.ensures)
 
 pub returns-in-26 : goal.returns-in-26
-unfolding description_of
-returns-in-26 c = level-as _ _ _ (description-case 26 c.args.s.now (library c.args.lib.now) _ c.args.second _ (sym c.bits.ensures ∙ c.in-26.is) refl) (level-pointer _ _ _ c.ranges.second c.ahead.ensures refl)
-
-pub returns-in-27 : goal.returns-in-27
-unfolding description_of
-returns-in-27 c = level-as _ _ _ (description-case 27 c.args.s.now (library c.args.lib.now) _ c.args.second _ (sym c.bits.ensures ∙ c.in-27.is) refl) (level-safe-array _ _ _ c.ranges.second c.ahead-in-27.ensures refl)
+returns-in-26 c =
+    over-one c.args.s.now (library c.args.lib.now) _ c.args.second (λ a. LevelCounted c.args.s.now (library c.args.lib.now) a c.args.to (record { to = c.ahead.result; inner = Some c.args.second }))
+    (omega (arith, c.bits.ensures)) (omega (arith, c.bits.ensures))
+    (level-pointer _ _ _ c.ranges.second c.ahead.ensures refl) (level-safe-array _ _ _ c.ranges.second c.ahead.ensures refl)
 
 pub returns-in-29 : goal.returns-in-29
 unfolding description_of
 returns-in-29 c = level-as _ _ _ (description-case 29 c.args.s.now (library c.args.lib.now) _ c.args.second _ (sym c.bits.ensures ∙ c.in-29.is) refl) (level-user _ _ _ c.ranges.second c.after_user.ensures refl refl)
 
 pub returns-in_default : goal.returns-in_default
-returns-in_default c = level-put _ _ _ _ c.requires (no-user _ _ _ _ (λ z. c.in_default.in_default-own.rest.1 (c.bits.ensures ∙ z))) (measured c.put_descriptor.ensures.0.moves, c.put_descriptor.ensures.1)
+returns-in_default c = level-put _ _ _ _ c.requires (no-user _ _ _ _ (λ z. omega (arith, c.bits.ensures, z))) (measured c.put_descriptor.ensures.0.moves, c.put_descriptor.ensures.1)

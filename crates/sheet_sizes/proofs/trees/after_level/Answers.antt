@@ -2,7 +2,7 @@ use mathlib.Core.Path.{refl}
 use Rattle.records.specs.AnswerLaws.{tells, bind-value, bind-refused}
 use Rattle.typelib.specs.DescriptorLaws.{field-base, field-entry}
 use Rattle.typelib.specs.TableLaws.{lent-long, lent_fits}
-use Rattle.typelib.specs.Told.{told_pair}
+use Rattle.records.specs.Told.{told}
 use Rattle.sheet_sizes.proofs.TreeLaws.{level-as, level-nothing, level-base}
 use Rattle.sheet_sizes.proofs.trees.after_level.Goals as goal
 
@@ -15,8 +15,8 @@ returns-then-field-ge-NEGATIVE c = level-as _ _ _ (lent_fits _ _ _ c.if-s-gt-LIM
 pub after_descriptor-requires : goal.after_descriptor-requires
 after_descriptor-requires c = c.requires
 
-pub returns-in-Value : goal.returns-in-Value
-returns-in-Value c = level-as _ _ _ (lent_fits _ _ _ c.if-s-gt-LIMIT.false (field-entry _ _ _ _ c.if-field-ge-NEGATIVE.false (bind-value _ _ _ _ (tells told_pair c.in-Value.is c.type_desc_at.ensures) refl))) c.after_descriptor.ensures
+pub returns-in-Ok : goal.returns-in-Ok
+returns-in-Ok c = level-as _ _ _ (lent_fits _ _ _ c.if-s-gt-LIMIT.false (field-entry _ _ _ _ c.if-field-ge-NEGATIVE.false (bind-value _ _ _ _ (tells told c.in-Ok.is c.type_desc_at.ensures) refl))) c.after_descriptor.ensures
 
-pub returns-in-Refused : goal.returns-in-Refused
-returns-in-Refused c = level-as _ _ _ (lent_fits _ _ _ c.if-s-gt-LIMIT.false (field-entry _ _ _ _ c.if-field-ge-NEGATIVE.false (bind-refused _ _ _ (tells told_pair c.in-Refused.is c.type_desc_at.ensures)))) (level-nothing _ _ _ _ c.leaf-in-Refused.ensures)
+pub returns-in-Err : goal.returns-in-Err
+returns-in-Err c = level-as _ _ _ (lent_fits _ _ _ c.if-s-gt-LIMIT.false (field-entry _ _ _ _ c.if-field-ge-NEGATIVE.false (bind-refused _ _ _ (tells told c.in-Err.is c.type_desc_at.ensures)))) (level-nothing _ _ _ _ c.leaf-in-Err.ensures)

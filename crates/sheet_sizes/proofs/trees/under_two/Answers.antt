@@ -1,10 +1,9 @@
-use mathlib.Core.Path.{refl, ap}
+use Rattle.std.proofs.Common.{rules}
 use Rattle.sheet_sizes.proofs.TreeLaws.{under_none, under-second}
-use Rattle.sheet_trees.specs.Parts.{told_inner}
 use Rattle.sheet_sizes.proofs.trees.under_two.Goals as goal
 
-pub returns-in_default : goal.returns-in_default
-returns-in_default c = under_none _ _ _ _ refl
+pub returns-in_err-under_one : goal.returns-in_err-under_one
+returns-in_err-under_one c = under_none _ _ _ _ (search rules)
 
 pub returns : goal.returns
-returns c = under-second _ _ _ _ c.under_one-one.ensures (ap told_inner c.in-Field.is) c.under_one.ensures
+returns c = under-second _ _ _ _ c.under_one.ensures c.in_ok-under_one.was c.under_one-2.ensures

@@ -16,9 +16,9 @@ use Rattle.sheet_sizes.proofs.variables.after_each.Goals as goal
 pub loop-t-init : goal.loop-t-init
 loop-t-init c = let z = c.requires in (subst (λ (n : ℕ). Left (from (var_step c.args.s.now) (λ (x : VarCursor). x.remaining) (variable_figures (type_count (library c.args.lib.now))) (variable_of c.args.s.now (library c.args.lib.now) c.args.ti) 0 c.args.cursor) c.args.from (from (var_step c.args.s.now) (λ (x : VarCursor). x.remaining) (variable_figures (type_count (library c.args.lib.now))) (variable_of c.args.s.now (library c.args.lib.now) c.args.ti) n c.args.cursor) c.args.from) (sym z) left-all, omega (arith, z), omega arith)
 
-pub returns-then-t-gt-PAST : goal.returns-then-t-gt-PAST
+pub returns-after-loop-t : goal.returns-after-loop-t
 unfolding variables_from
-returns-then-t-gt-PAST c = left-stopped c.loop-t.invariant.0 c.if-t-gt-PAST.true
+returns-after-loop-t c = left-stopped c.loop-t.invariant.0 (omega (arith, c.loop-t-test.false))
 
 pub returns-in_default : goal.returns-in_default
 unfolding variables_from

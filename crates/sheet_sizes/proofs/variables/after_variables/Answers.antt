@@ -1,6 +1,6 @@
 use Rattle.sheet_sizes.proofs.CountLaws.{ahead-measured, known, then, bytes}
 use Rattle.sheet_sizes.proofs.MemberLaws.{variables-some, variables-none}
-use Rattle.cursors.specs.Told.{told_vars}
+use Rattle.records.specs.Told.{told}
 use Rattle.describe.specs.Answers.{answers-value}
 use Rattle.describe.specs.MemberNumbers.{vars-begun}
 use mathlib.Core.Path.{sym, ◌∙◌, ap, refl}
@@ -8,10 +8,10 @@ use mathlib.Core.List.{[], ◌∷◌}
 use Rattle.sheet_sizes.proofs.variables.after_variables.Goals as goal
 
 pub after_each-requires : goal.after_each-requires
-after_each-requires c = answers-value (vars-begun c.args.s.now c.args.ti) (sym c.vars.ensures ∙ ap told_vars c.in-Value.is)
+after_each-requires c = answers-value (vars-begun c.args.s.now c.args.ti) (sym c.vars.ensures ∙ ap told c.in-Ok.is)
 
-pub returns-in-Value : goal.returns-in-Value
-returns-in-Value c = known (variables-some _ _ _ _ c.vars.ensures (ap told_vars c.in-Value.is)) (then (bytes c.args.from _ (ahead-measured _ c.ahead.ensures (0 ∷ 0 ∷ []) refl)) (rw c.moved-begun.ensures at c.after_each.ensures))
+pub returns-in-Ok : goal.returns-in-Ok
+returns-in-Ok c = known (variables-some _ _ _ _ c.vars.ensures (ap told c.in-Ok.is)) (then (bytes c.args.from _ (ahead-measured _ c.ahead.ensures (0 ∷ 0 ∷ []) refl)) (rw c.moved-begun.ensures at c.after_each.ensures))
 
-pub returns-in-Refused : goal.returns-in-Refused
-returns-in-Refused c = rw c.moved-begun.ensures (known (variables-none _ _ _ _ c.vars.ensures (ap told_vars c.in-Refused.is)) (bytes _ _ (ahead-measured _ c.ahead.ensures (0 ∷ 0 ∷ []) refl)))
+pub returns-in-Err : goal.returns-in-Err
+returns-in-Err c = rw c.moved-begun.ensures (known (variables-none _ _ _ _ c.vars.ensures (ap told c.in-Err.is)) (bytes _ _ (ahead-measured _ c.ahead.ensures (0 ∷ 0 ∷ []) refl)))

@@ -1,6 +1,4 @@
-use mathlib.Core.Path.{◌∙◌, ap}
-use Prim.Native.Nat.{ℕ}
-use native.Mathlib.Omega.{arith}
+use Rattle.std.proofs.Common.{◌∙◌, ap, ℕ, arith}
 use Rattle.emit.specs.Laws.{known}
 use Rattle.records.specs.Answer.{value}
 use Rattle.sheet_trees.specs.Parts.{internal_bytes}

@@ -1,4 +1,4 @@
-use native.Mathlib.Omega.{arith}
+use Rattle.std.proofs.Common.{arith}
 use Rattle.emit.specs.Laws.{known}
 use Rattle.typelib.specs.Header.{library}
 use Rattle.sheet_trees.proofs.PartLaws.{in-this-negative, in-this-offset, in-this-misplaced}

@@ -1,7 +1,7 @@
+use Rattle.std.proofs.Common.{ap}
 use Rattle.sheet_trees.proofs.PartLaws.{resolved-internal, resolved-external}
 use Rattle.typelib.specs.Told.{told_hreftype}
 use Rattle.emit.specs.Laws.{known}
-use mathlib.Core.Path.{ap}
 use Rattle.sheet_trees.proofs.references.put_resolved.Goals as goal
 
 pub returns-in-Internal : goal.returns-in-Internal

@@ -1,4 +1,4 @@
-use native.Mathlib.Omega.{arith}
+use Rattle.std.proofs.Common.{arith}
 use Rattle.emit.specs.Laws.{known, byte-first}
 use Rattle.sheet_trees.proofs.trees.put_base.Goals as goal
 

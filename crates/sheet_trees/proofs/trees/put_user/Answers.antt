@@ -1,4 +1,4 @@
-use mathlib.Core.Path.{refl}
+use Rattle.std.proofs.Common.{refl}
 use Rattle.emit.specs.Laws.{join}
 use Rattle.sheet_trees.proofs.trees.put_user.Goals as goal
 

@@ -1,10 +1,7 @@
+use Rattle.std.proofs.Common.{length, ℕ, ◌+◌, ◌*◌, ◌%◌, List, ap}
 use Rattle.description.specs.Format.{le_bytes}
 use Rattle.records.specs.Record.{part_of}
 use Rattle.records.specs.Answer.{value}
-use lib.ListN.{length}
-use Prim.Native.Nat.{ℕ, ◌+◌, ◌*◌, ◌%◌}
-use mathlib.Core.List.{List}
-use mathlib.Core.Path.{ap}
 use Rattle.emit.specs.Laws.{known, join}
 use Rattle.emit.specs.Emit.{counted_part, ◌▸◌}
 use Rattle.sheet_trees.proofs.values.put_counted.Goals as goal

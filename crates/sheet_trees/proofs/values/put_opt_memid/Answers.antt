@@ -1,3 +1,4 @@
+use Rattle.std.proofs.Common.{rules}
 use Rattle.emit.specs.Laws.{known}
 use Rattle.sheet_trees.proofs.PartLaws.{memid-is, memid-missing}
 use Rattle.typelib.specs.TableLaws.{pattern}
@@ -7,4 +8,4 @@ pub returns-in_default : goal.returns-in_default
 returns-in_default c = known (memid-missing c.in_default.is) c.put_u8.ensures
 
 pub returns : goal.returns
-returns c = known (memid-is c.in-Value.is (pattern c.in-Value.x _ (record { sfits = c.in-Value.known_told-1-own.given.0.1 }) c.unsigned32.ensures)) c.put_le.ensures
+returns c = known (memid-is c.in-Ok.is (pattern c.in-Ok.x _ (search rules) c.cast_unsigned.ensures)) c.put_le.ensures

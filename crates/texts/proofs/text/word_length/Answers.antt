@@ -1,24 +1,12 @@
-use Rattle.texts.specs.TextLaws.{word_more, word-ends, word-whole}
-use native.Mathlib.Omega.{arith}
+use mathlib.Core.Path.{◌∙◌}
+use Rattle.std.proofs.Common.{rules, tests, eqb}
+use Rattle.std.proofs.lemmas.Iterator.{YieldsList-from_slice}
+use Rattle.std.proofs.lemmas.Iterator.Search.{position_from_yields_List}
+use Rattle.texts.specs.TextLaws.{word_length}
 use Rattle.texts.proofs.text.word_length.Goals as goal
 
-pub loop-i-init : goal.loop-i-init
-loop-i-init c = omega arith
-
-pub bounds-cell-i : goal.bounds-cell-i
-bounds-cell-i c = omega arith
-
-pub returns-then-cell-i-eq32 : goal.returns-then-cell-i-eq32
-returns-then-cell-i-eq32 c = word-ends _ _ _ c.loop-i.invariant.1 c.loop-i-test.true c.if-cell-i-eq32.true
-
-pub overflow_add-i : goal.overflow_add-i
-overflow_add-i c = omega arith
-
-pub loop-i-smaller : goal.loop-i-smaller
-loop-i-smaller c = omega arith
-
-pub loop-i-preserved : goal.loop-i-preserved
-loop-i-preserved c = (omega arith, word_more _ _ _ c.loop-i.invariant.1 c.loop-i-test.true c.if-cell-i-eq32.false)
-
 pub returns : goal.returns
-returns c = word-whole _ _ _ c.loop-i.invariant.1 c.loop-i-test.false
+returns c =
+    let cell = c.args.cell.now in
+    let found = position_from_yields_List (λ b. eqb b 32) _ _ c.position.result c.position.ensures.ran (YieldsList-from_slice cell cc) (λ x b q k. search (rules, tests)) in
+    c.unwrap_or.ensures ∙ word_length cell _ found

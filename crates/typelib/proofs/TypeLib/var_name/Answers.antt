@@ -1,7 +1,7 @@
 use lib.IntN.{ℤ}
 use Rattle.typelib.specs.Names.{name_text}
 use Rattle.typelib.specs.Nine.{nine-map, nine-member, long-member}
-use Rattle.records.specs.Told.{told_i32}
+use Rattle.records.specs.Told.{told}
 use Rattle.records.specs.AnswerLaws.{tells, bind-value, bind-refused, map-refused}
 use Rattle.records.specs.Answer.{refused}
 use mir.ValLaws.{to_z-of_z}
@@ -14,7 +14,7 @@ pub returns-then-s-gt-LIMIT : goal.returns-then-s-gt-LIMIT
 returns-then-s-gt-LIMIT c = bind-refused _ _ _ (map-refused (to_z w32) _ _ (long-member _ c.args.s.now c.args.ti c.args.index c.if-s-gt-LIMIT.true))
 
 pub returns-in_default : goal.returns-in_default
-returns-in_default c = sym (ap refused (nine-map (to_z w32) _ (nine-member _ c.args.s.now c.args.ti c.args.index c.if-s-gt-LIMIT.false) _ (tells told_i32 c.in_default.is c.var_name_offset.ensures))) ∙ bind-refused _ _ _ (tells told_i32 c.in_default.is c.var_name_offset.ensures)
+returns-in_default c = sym (ap refused (nine-map (to_z w32) _ (nine-member _ c.args.s.now c.args.ti c.args.index c.if-s-gt-LIMIT.false) _ (tells told c.in_default.is c.var_name_offset.ensures))) ∙ bind-refused _ _ _ (tells told c.in_default.is c.var_name_offset.ensures)
 
 pub returns : goal.returns
-returns c = bind-value _ _ _ _ (tells told_i32 c.in-Value.is c.var_name_offset.ensures) (c.name.ensures ∙ ap (λ (z : ℤ). name_text c.args.s.now c.args.self (of_z w32 z)) (to_z-of_z w32 c.in-Value.offset (record { sfits = c.in-Value.known_told-1-own.given.0.1 })))
+returns c = bind-value _ _ _ _ (tells told c.in-Ok.is c.var_name_offset.ensures) (c.name.ensures ∙ ap (λ (z : ℤ). name_text c.args.s.now c.args.self (of_z w32 z)) (to_z-of_z w32 c.in-Ok.offset (record { sfits = c.in-Ok.known_told-1-own.given.0.1 })))

@@ -1,17 +1,6 @@
-use native.Mathlib.Omega.{arith}
-use mathlib.Core.Path.{ap}
-use Rattle.records.specs.AnswerLaws.{tells}
-use Rattle.records.specs.Told.{told_place}
-use Rattle.table_cursors.specs.Cursors.{over_guids, fixed_next_from, fixed_next}
-use Rattle.cursors.specs.NumberLaws.{step-found, step-none}
+use Rattle.std.proofs.Common.{arith}
 use Rattle.cursors.specs.CursorLaws.{fixed}
 use Rattle.table_cursors.proofs.iterators.GuidCursor.step.Goals as goal
 
 pub overflow_add-result : goal.overflow_add-result
-overflow_add-result c = let h = fixed c.args.s.now c.args.self.pos c.args.self.end 24 _ (tells told_place c.in-Value.is c.fixed_at.ensures) in omega arith
-
-pub returns-in-Value : goal.returns-in-Value
-returns-in-Value c = step-found over_guids (fixed_next 24 c.args.s.now) c.args.self _ _ _ (ap (fixed_next_from 24 (over_guids.stands c.args.self)) (tells told_place c.in-Value.is c.fixed_at.ensures)) c.number_behind.ensures
-
-pub returns-in-Refused : goal.returns-in-Refused
-returns-in-Refused c = step-none over_guids (fixed_next 24 c.args.s.now) c.args.self _ (ap (fixed_next_from 24 (over_guids.stands c.args.self)) (tells told_place c.in-Refused.is c.fixed_at.ensures))
+overflow_add-result c = let h = fixed _ _ _ _ _ c.in-Ok.ensures in omega (arith, h.inside, c.well_formed)

@@ -1,6 +1,0 @@
-use mathlib.Core.Path.{◌∙◌, ap}
-use Rattle.replies.specs.Call.{reply}
-use Rattle.msft_typelib.proofs.arraydesc.msft_arraydesc_num_dims.Goals as goal
-
-pub returns : goal.returns
-returns c = c.of_u16.ensures ∙ ap reply c.num_dims.ensures

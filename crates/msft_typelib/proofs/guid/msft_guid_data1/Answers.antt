@@ -1,6 +1,0 @@
-use mathlib.Core.Path.{◌∙◌, ap}
-use Rattle.replies.specs.Call.{reply}
-use Rattle.msft_typelib.proofs.guid.msft_guid_data1.Goals as goal
-
-pub returns : goal.returns
-returns c = c.of_u32.ensures ∙ ap reply c.data1.ensures

@@ -1,6 +1,0 @@
-use mathlib.Core.Path.{◌∙◌, ap}
-use Rattle.replies.specs.Call.{reply}
-use Rattle.msft_typelib.proofs.typeinfo.msft_typeinfo_func_count.Goals as goal
-
-pub returns : goal.returns
-returns c = c.of_u16.ensures ∙ ap reply c.func_count.ensures

@@ -1,6 +1,0 @@
-use Rattle.replies.specs.Call.{bits32, reply}
-use mathlib.Core.Path.{◌∙◌, ap}
-use Rattle.msft_typelib.proofs.var.msft_var_help_string_offset.Goals as goal
-
-pub returns : goal.returns
-returns c = c.of_i32.ensures ∙ ap reply (ap bits32 c.help_string_offset.ensures)

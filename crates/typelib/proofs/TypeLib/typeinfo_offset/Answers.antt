@@ -1,8 +1,0 @@
-use Rattle.typelib.specs.TableLaws.{lent-long, lent_fits}
-use Rattle.typelib.proofs.TypeLib.typeinfo_offset.Goals as goal
-
-pub returns-then-s-gt-LIMIT : goal.returns-then-s-gt-LIMIT
-returns-then-s-gt-LIMIT c = lent-long _ _ c.if-s-gt-LIMIT.true
-
-pub returns : goal.returns
-returns c = lent_fits _ _ _ c.if-s-gt-LIMIT.false c.offset_word.ensures
