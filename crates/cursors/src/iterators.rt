@@ -26,9 +26,9 @@ use util::{LittleEndian, NEGATIVE};
 // One step of a cursor: the record, its number from 0 and the next cursor; or why there is none, and the cursor to go on with.
 // (No `Result`: the cursor comes back either way.)
 #[derive(Clone, Copy)]
-pub enum Step<R, C> {
+pub enum Step<R, C, E = Refusal> {
     Record(R, u64, C),
-    Refused(Refusal, C),
+    Refused(E, C),
 }
 
 // (Three types with the same fields, as records are told apart by their types: C builds each from its numbers, and contracts name the fields.)

@@ -1,7 +1,11 @@
--- What `parse` replies, a number and a library, tells whether the bytes are refused and which library they are. Assumes nothing.
+-- What `parse` replies tells whether the bytes are refused and which library they are: by a number, 0 or the refusal's, and a library
+-- (`parsed`), and of the reply itself. Assumes nothing.
 use Rattle.std.specs.Prelude.{◌≡◌, refl, List, ℕ}
+use Rattle.std.specs.declared.result.Result.{Result}
 use Rattle.std.proofs.Common.{sym, ap, ◌∙◌}
 use Rattle.records.specs.Answer.{Answer, value, refused}
+use Rattle.records.specs.Told.{told}
+use Rattle.records.specs.declared.answer.Refusal.{Refusal}
 use Rattle.typelib.specs.declared.TypeLib.{TypeLib}
 use Rattle.typelib.specs.Header.{Parsed}
 use Rattle.typelib.specs.Header.{parse_of, parsed}
@@ -31,3 +35,11 @@ module _ (s : List ℕ) (p : Parsed) (e : p ≡ parsed (parse_of s)) where
   -- a library whose number is 0 was parsed
   pub parse-read : p.number ≡ 0 → parse_of s ≡ value p.lib
   parse-read zero = parsed-value (parse_of s) (number ∙ zero) (never-zero s) ∙ ap (λ (x : Parsed). value x.lib) (sym e)
+
+-- what `parse` promises of its reply, which is told by that number and that library
+module _ (s : List ℕ) (r : Result TypeLib Refusal) (e : told r ≡ parse_of s) where
+  pub reply-refused : ((parsed (told r)).number ≡ 0 → ⊥) → parse_of s ≡ refused (parsed (told r)).number
+  reply-refused h = parse-refused s (parsed (told r)) (ap parsed e) h
+
+  pub reply-read : (parsed (told r)).number ≡ 0 → parse_of s ≡ value (parsed (told r)).lib
+  reply-read zero = parse-read s (parsed (told r)) (ap parsed e) zero

@@ -134,6 +134,10 @@ join {x} {y} {t} {s} {r} {o} {o₁} {o₂} a b =
 pub known : {x y : Answer Bytes} {t r : Put} {o o' : List ℕ} → x ≡ y → Emitted x t o r o' → Emitted y t o r o'
 known e h = rw e at h
 
+-- a refusal whose number is known by another name
+pub numbered : {n k : ℕ} {t r : Put} {o o' : List ℕ} → n ≡ k → Emitted (refused n) t o r o' → Emitted (refused k) t o r o'
+numbered e = known (ap refused e)
+
 -- bytes that fill the output are all that it holds
 pub filled : {bs o o' : List ℕ} {r : Put} → Emitted (value bs) (At 0) o r o' → length bs ≤ limit → length o ≡ length bs → o' ≡ bs
 filled {bs} {o} {o'} w k e =

@@ -35,12 +35,12 @@ fn stopped(at: usize) -> usize
     at.max(PAST)
 }
 
-// The refusal, unless there is one already.
-pub fn put_refusal(to: usize, refusal: Refusal) -> usize
-    ensures { (o : _) → Emitted (refused (refusal_number refusal)) (put to) o (put result) o }
+// The refusal, unless there is one already. (A number and no `Refusal`: whatever byte a caller has is put.)
+pub fn put_refusal(to: usize, number: u8) -> usize
+    ensures { (o : _) → Emitted (refused number) (put to) o (put result) o }
 {
     if to <= PAST {
-        PAST + 1 + usize::from(refusal.number())
+        PAST + 1 + usize::from(number)
     } else {
         to
     }
@@ -119,12 +119,15 @@ pub fn put_u32(out: &mut [u8], to: usize, v: u32) -> usize
     put_le(out, to, u64::from(v), 4)
 }
 
-// The bytes, where there is room for them at `at`.
+// The bytes, where there is room for them at `at`. (By a loop, of which the compiler makes moves of many bytes: the library's `copy_from_slice`
+// calls `memmove`, which a C program that takes the archive would have to have.)
 fn store(bytes: &[u8], out: &mut [u8], at: usize)
     requires { at + length bytes.now ≤ length out.old }
     ensures { out.new ≡ sets out.old at bytes.now }
 {
-    out[at..at + bytes.len()].copy_from_slice(bytes);
+    for (i, byte) in bytes.iter().enumerate() {
+        out[at + i] = *byte;
+    }
 }
 
 pub fn put_bytes(bytes: &[u8], out: &mut [u8], to: usize) -> usize
@@ -171,7 +174,7 @@ pub fn put_part(s: &[u8], place: Place, out: &mut [u8], to: usize) -> usize
         store_short(&*s, at, out, to);
         return to + place.len;
     }
-    put_bytes(answer::part(s, Ok(place)), out, to)
+    put_bytes(answer::part(s, Ok::<_, Refusal>(place)), out, to)
 }
 
 // The byte 1, the length in one byte and the bytes at a place of the library; 0, and nothing done, where they are not short, or there

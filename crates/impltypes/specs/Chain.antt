@@ -3,8 +3,9 @@
 -- offset, -1 if last". Offsets are 32-bit patterns and count from the table's start. Assumes nothing.
 use Rattle.std.specs.Prelude.{◌≡◌, refl, Bool, true, false, cond, ◌||◌, List, ℕ, zero, suc, ◌+◌, ◌<◌, eqb, length}
 use Rattle.records.specs.Told.{refusal_number}
+use Rattle.records.specs.declared.answer.Refusal.{Refusal}
+use Rattle.cursors.specs.Told.{told_step_as}
 use Rattle.cursors.specs.declared.iterators.Step.{Step as StepOf}
-use Rattle.cursors.specs.declared.iterators.Step.TheVariants.{Record, Refused}
 use Rattle.records.specs.declared.refrecord.RefRecord.{RefRecord}
 use Rattle.util.specs.Read.{le}
 use Rattle.records.specs.declared.answer.Place.{Place}
@@ -142,6 +143,9 @@ cursor_at s c k = over_impl_types.cursor (stands_at s (over_impl_types.stands c)
 
 -- ---- what each answer tells
 
-abbrev pub told_impl_type_step : StepOf RefRecord ImplTypeCursor → Step Place ImplTypeCursor
-told_impl_type_step (Record r number c) = yielded (record { at = r.at; len = r.len }) number c
-told_impl_type_step (Refused e c) = ended (refusal_number e) c
+-- by the number of what refuses
+abbrev pub told_impl_type_step_as : {E : Type 0} → (E → ℕ) → StepOf RefRecord ImplTypeCursor E → Step Place ImplTypeCursor
+told_impl_type_step_as number = told_step_as number (λ r. record { at = r.at; len = r.len })
+
+abbrev pub told_impl_type_step : StepOf RefRecord ImplTypeCursor Refusal → Step Place ImplTypeCursor
+told_impl_type_step = told_impl_type_step_as refusal_number

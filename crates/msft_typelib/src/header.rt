@@ -175,7 +175,7 @@ pub extern "C" fn msft_parse(s: &[u8]) -> i64
 {
     match TypeLib::parse(s) {
         Ok(_) => 0,
-        Err(refusal) => reply::minus(refusal),
+        Err(refusal) => reply::minus(refusal.number()),
     }
 }
 

@@ -22,9 +22,13 @@ refusal_number TooDeep = 11
 refusal_number NoSpace = 12
 refusal_number TooManyTypes = 13
 
+-- by the number of what refuses
+abbrev pub told_as : {A E : Type 0} → (E → ℕ) → Result A E → Answer A
+told_as number (Ok x) = value x
+told_as number (Err e) = refused (number e)
+
 abbrev pub told : {A : Type 0} → Result A Refusal → Answer A
-told (Ok x) = value x
-told (Err e) = refused (refusal_number e)
+told = told_as refusal_number
 
 -- a record that was answered is its place
 abbrev pub told_guid : Result Guid Refusal → Answer Place

@@ -13,5 +13,5 @@ pub fn text_check(s: &[u8], at: usize, len: usize) -> Result<TextCheck, Refusal>
     ensures { told result ≡ check_at s.now at len }
 {
     let place = field::record_place(s, Place { at, len }, 0)?;
-    Ok(utf8::check(answer::part(s, Ok(place))))
+    Ok(utf8::check(answer::part(s, Ok::<_, Refusal>(place))))
 }

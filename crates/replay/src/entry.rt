@@ -6,7 +6,8 @@
 // in the bytes lent by 255 or 253 last. A question is the number of what is asked (1), three numbers (4 each),
 // the count of the answers' bytes (2) and these. All numbers have their lowest byte first.
 // (An item keeps the byte that says what it is: it is the file's own number, and is looked up in `asked` where it is replayed or printed.)
-use std::alloc::{AllocError, Global};
+ghost use Rattle.std.specs.Iterator.{at_most};
+
 use util::LittleEndian;
 
 // Where the first item starts, behind the count.
@@ -95,29 +96,48 @@ fn read_question(s: &[u8], kind: u8) -> Option<(Item<'_>, &[u8])> {
     Some((item, rest))
 }
 
-// The items of the file. It is malformed, and there are none, where it does not hold as many as it says, holds a
-// byte behind them, or asks what is not from `first` on and before `end`.
-pub(crate) fn items(
-    alloc: Global,
-    s: &[u8],
-    first: u8,
-    end: u8,
-) -> Result<Option<Vec<Item<'_>>>, AllocError> {
-    let Some(mut rest) = s.get(FIRST..) else {
-        return Ok(None);
-    };
-    let mut items = Vec::new(alloc);
-    for _ in 0..util::or_zero::<u32>(s, 0) {
-        let Some((item, behind)) = read(rest) else {
-            return Ok(None);
+// The items of a file that are left. (Each is read as it is come to, so that nothing is allocated, however many there are; and
+// they are copied to each that goes over them.)
+#[derive(Clone, Copy)]
+pub struct Items<'a> {
+    left: u32,
+    rest: &'a [u8],
+}
+
+impl<'a> Items<'a> {
+    // The items of the file. It is malformed, and there are none, where it does not hold as many as it says, holds a
+    // byte behind them, or asks what is not from `first` on and before `end`.
+    pub(crate) fn of(s: &'a [u8], first: u8, end: u8) -> Option<Items<'a>> {
+        let items = Items {
+            left: util::or_zero::<u32>(s, 0),
+            rest: s.get(FIRST..)?,
         };
-        if !is_of(item.kind, first, end) {
-            return Ok(None);
+        let mut behind = items;
+        for _ in 0..items.left {
+            if !is_of(behind.next()?.kind, first, end) {
+                return None;
+            }
         }
-        items.push(item)?;
-        rest = behind;
+        if behind.rest.is_empty() {
+            Some(items)
+        } else {
+            None
+        }
     }
-    Ok(if rest.is_empty() { Some(items) } else { None })
+}
+
+impl<'a> Iterator for Items<'a> {
+    type Item = Item<'a>;
+
+    ghost remaining = { λ s. at_most s.left };
+
+    fn next(&mut self) -> Option<Item<'a>> {
+        let left = self.left.checked_sub(1)?;
+        let (item, rest) = read(self.rest)?;
+        self.left = left;
+        self.rest = rest;
+        Some(item)
+    }
 }
 
 fn is_of(kind: u8, first: u8, end: u8) -> bool {

@@ -30,18 +30,17 @@ mod steps;
 mod tables;
 mod words;
 
+ghost use Rattle.std.specs.Prelude.{◌≡◌, ◌≤◌, take, IfOk};
+
 use answers::Answers;
 use asked::{Asked, END, FIRST_READING};
-use entry::{Item, KEPT, LENT, Lent};
+use entry::{Item, Items, KEPT, LENT, Lent};
 use progress::{Counts, Progress};
 use std::fs::File;
 use std::io::{self, Read};
 
-// A file that has this many bytes may be longer, and is not replayed.
+// A file that fills all of this may be longer, and is not replayed.
 const ROOM: usize = 2_097_152;
-
-// The same, as `take` wants it.
-const MOST_READ: u64 = 2_097_152;
 
 fn main(rt: HostRuntime) -> io::Result<()> {
     replay_file(&rt, "records", 0, FIRST_READING)?;
@@ -49,33 +48,43 @@ fn main(rt: HostRuntime) -> io::Result<()> {
     replay_file(&rt, "beside", FIRST_READING, END)
 }
 
-// Replays a file, whose questions ask what is from `first` on and before `end`.
+// Replays a file, whose questions ask what is from `first` on and before `end`. (Nothing is allocated: the file stands in an array
+// on the stack.)
 fn replay_file(rt: &HostRuntime, file: &str, first: u8, end: u8) -> io::Result<()> {
-    let Ok(opened) = File::open(rt, file) else {
+    let Ok(mut opened) = File::open(rt, file) else {
         return report::trouble(rt, file, "cannot be opened");
     };
-    let mut bytes = Vec::new(rt.alloc());
-    opened.take(MOST_READ).read_to_end(&mut bytes)?;
-    if bytes.len() == ROOM {
+    let mut room = [0u8; ROOM];
+    let size = fill(&mut opened, &mut room)?;
+    if size == ROOM {
         return report::trouble(rt, file, "is too long");
     }
-    match entry::items(rt.alloc(), &bytes, first, end)? {
+    match Items::of(front(&room, size), first, end) {
         Some(items) => {
-            replay_kinds(rt, file, &items, first, end)?;
-            count_libraries(rt, file, &items, first)
+            replay_kinds(rt, file, items, first, end)?;
+            count_libraries(rt, file, items, first)
         }
         None => report::trouble(rt, file, "is cut off or malformed"),
     }
 }
 
+// Reads the file to its end or until the room is full, and replies how many bytes it has.
+fn fill(file: &mut File, room: &mut [u8; ROOM]) -> io::Result<usize>
+    ensures { IfOk result (λ size. size ≤ ROOM) }
+{
+    let size = io::copy(&mut file.take(ROOM as u64), &mut &mut room[..])?;
+    Ok(ROOM.min(size as usize))
+}
+
+// The first `size` bytes; all of them where there are fewer.
+fn front(s: &[u8], size: usize) -> &[u8]
+    ensures { result.now ≡ take size s.now }
+{
+    s.get(..size).unwrap_or(s)
+}
+
 // Replays the questions kind by kind, with a line for each kind that is asked and one for the file.
-fn replay_kinds(
-    rt: &HostRuntime,
-    file: &str,
-    items: &[Item],
-    first: u8,
-    end: u8,
-) -> io::Result<()> {
+fn replay_kinds(rt: &HostRuntime, file: &str, items: Items, first: u8, end: u8) -> io::Result<()> {
     let mut all = Counts::NONE;
     let mut shown = 0;
     for kind in first..end {
@@ -89,25 +98,25 @@ fn replay_kinds(
 
 // Prints how many libraries the file lends that the Rust reads as it is, and how many in which it is kept to its
 // tables. The records of the first file are no libraries.
-fn count_libraries(rt: &HostRuntime, file: &str, items: &[Item], first: u8) -> io::Result<()> {
+fn count_libraries(rt: &HostRuntime, file: &str, items: Items, first: u8) -> io::Result<()> {
     if first == 0 {
         return Ok(());
     }
-    let as_they_are = items.iter().filter(|item| item.kind == LENT).count();
-    let kept = items.iter().filter(|item| item.kind == KEPT).count();
+    let as_they_are = items.filter(|item| item.kind == LENT).count();
+    let kept = items.filter(|item| item.kind == KEPT).count();
     report::libraries_line(rt, file, as_they_are, kept)
 }
 
 // Replays the questions of one kind, wherever they stand, about the bytes that were lent last before
 // each.
-fn replay_kind(items: &[Item], kind: u8, shown: usize) -> Progress {
+fn replay_kind(items: Items, kind: u8, shown: usize) -> Progress {
     let mut progress = Progress::start(shown);
     let mut lent = Lent::NOTHING;
-    for (number, item) in items.iter().enumerate() {
-        lent = lent.behind(item);
+    for (number, item) in items.enumerate() {
+        lent = lent.behind(&item);
         if item.kind == kind {
             progress.asked(number);
-            progress = replay_question(lent, item, progress);
+            progress = replay_question(lent, &item, progress);
         }
     }
     progress

@@ -5,12 +5,14 @@ use Rattle.std.proofs.Math.Path.{ap}
 use Rattle.std.specs.Int.{w64}
 use Rattle.std.proofs.lemmas.Int.{to_z-of_z, to_z_pos}
 use Rattle.records.specs.Answer.{Answer, value, refused}
-use Rattle.records.specs.Told.{refusal_number}
+use Rattle.std.specs.declared.result.Result.{Result}
+use Rattle.records.specs.Told.{refusal_number, told}
 use Rattle.records.specs.declared.answer.Refusal.{Refusal}
 use Rattle.records.specs.declared.answer.Refusal.TheVariants.{OverLong, ShortHeader, WrongMagic, BadCount, ShortDirectory, NoSuchTypeInfo, NoTypeInfoTable, ShortTypeInfo, NothingThere, Circle, TooDeep, NoSpace, TooManyTypes}
+use Rattle.typelib.specs.declared.TypeLib.{TypeLib}
 use Rattle.typelib.specs.Header.{Parsed}
 use Rattle.typelib.specs.Header.{parse_of, parsed}
-use Rattle.replies.specs.Call.{refusal_of, library_in, after, reply, reply_behind, Outcome, laid}
+use Rattle.replies.specs.Call.{refusal_of, library_in, after, past, reply, reply_behind, Outcome, laid}
 
 -- ---- a reply is an i64, which the machine reads back from its bits
 
@@ -49,6 +51,14 @@ number_is s p e = sym (ap (λ p. p.number) e)
 pub library-is : (s : List ℕ) (p : Parsed) → p ≡ parsed (parse_of s) → library_in s ≡ p.lib
 unfolding library_in
 library-is s p e = sym (ap (λ p. p.lib) e)
+
+-- the same of what `parse` replies, told by that number and that library
+module _ (s : List ℕ) (r : Result TypeLib Refusal) (e : told r ≡ parse_of s) where
+  pub number-replied : refusal_of s ≡ (parsed (told r)).number
+  number-replied = number_is s (parsed (told r)) (ap parsed e)
+
+  pub library-replied : library_in s ≡ (parsed (told r)).lib
+  library-replied = library-is s (parsed (told r)) (ap parsed e)
 
 -- ---- what was refused before
 
@@ -92,6 +102,16 @@ pub behind-reply : (n : ℕ) (a : Answer ℕ) → reply_behind n (reply a) ≡ r
 unfolding reply_behind reply after
 behind-reply zero a = refl
 behind-reply (suc n) a = refl
+
+-- what an export replies of a library's answer is the reply of `parse` first: its number, unless that is 0
+pub replied-past : (s : List ℕ) (r : Result TypeLib Refusal) (a : Answer ℕ) {z : ℤ} → told r ≡ parse_of s → z ≡ reply (past s a)
+    → z ≡ reply_behind (parsed (told r)).number (reply a)
+replied-past s r a e h = h ∙ sym (behind-reply (refusal_of s) a) ∙ ap (λ (n : ℕ). reply_behind n (reply a)) (number-replied s r e)
+
+-- the same of what it lays out
+pub laid-past : (s o : List ℕ) (r : Result TypeLib Refusal) (a : Answer (List ℕ)) {w : Outcome} → told r ≡ parse_of s → w ≡ laid (past s a) o
+    → w ≡ laid (after (parsed (told r)).number a) o
+laid-past s o r a e h = h ∙ ap (λ (n : ℕ). laid (after n a) o) (number-replied s r e)
 
 -- ---- an export: what it calls replies or lays out, by the definitions that are cited
 

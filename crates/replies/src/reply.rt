@@ -1,34 +1,31 @@
 // The replies, and rows laid into an output.
-ghost use Rattle.std.specs.Prelude.{◌≡◌, refl, ◌^◌, pos, neg_ℤ, ℕ, Ok, Err};
+ghost use Rattle.std.specs.Prelude.{◌≡◌, refl, ◌^◌, pos, neg_ℤ, ℕ};
 ghost use Rattle.std.specs.Int.{w64};
-ghost use Rattle.std.specs.declared.result.Result.{Result};
 ghost use Rattle.std.proofs.Common.{to_z, of_z};
 ghost use Rattle.records.specs.Answer.{Answer, map, value, refused};
-ghost use Rattle.records.specs.Told.{refusal_number, told};
-ghost use Rattle.records.specs.declared.answer.Refusal.{Refusal};
-ghost use Rattle.typelib.specs.Told.{told_offset};
+ghost use Rattle.records.specs.Told.{told_as};
 ghost use Rattle.replies.specs.Call.{reply, bits16, bits32, truth, kind_number, outcome, laid};
 ghost use Rattle.replies.specs.Written.{below};
-ghost use Rattle.rows.specs.Told.{told_row};
+ghost use Rattle.rows.specs.Told.{told_row_as};
 
-use records::answer::Refusal;
+use records::answer::{Refusal, Refuses};
 use records::types::TypeKind;
 use rows::row::Row;
 use typelib::TypeInfoOffset;
 
 // A value that is replied as a number of at most 32 bits. (Each type says itself how it becomes the number that C gets, and what is told of it.)
 pub trait Reply: Copy {
-    // What is replied of an answer.
-    ghost answer: { Result Self Refusal → Answer ℕ };
+    // What is replied of what was told.
+    ghost replied: { Answer Self → Answer ℕ };
 
     fn number(self) -> u32
-        ensures { answer (Ok self) ≡ value result };
+        ensures { replied (value self) ≡ value result };
 
-    ghost refuses: { (e : Refusal) → answer (Err e) ≡ refused (refusal_number e) };
+    ghost refuses: { (n : ℕ) → replied (refused n) ≡ refused n };
 }
 
 impl Reply for u8 {
-    ghost answer = { told };
+    ghost replied = { λ a. a };
 
     ghost refuses = { λ _. refl };
 
@@ -38,7 +35,7 @@ impl Reply for u8 {
 }
 
 impl Reply for u16 {
-    ghost answer = { told };
+    ghost replied = { λ a. a };
 
     ghost refuses = { λ _. refl };
 
@@ -48,7 +45,7 @@ impl Reply for u16 {
 }
 
 impl Reply for u32 {
-    ghost answer = { told };
+    ghost replied = { λ a. a };
 
     ghost refuses = { λ _. refl };
 
@@ -59,7 +56,7 @@ impl Reply for u32 {
 
 // A signed number is replied by its bits.
 impl Reply for i16 {
-    ghost answer = { λ a. bits16 (told a) };
+    ghost replied = { bits16 };
 
     ghost refuses = { λ _. refl };
 
@@ -69,7 +66,7 @@ impl Reply for i16 {
 }
 
 impl Reply for i32 {
-    ghost answer = { λ a. bits32 (told a) };
+    ghost replied = { bits32 };
 
     ghost refuses = { λ _. refl };
 
@@ -79,7 +76,7 @@ impl Reply for i32 {
 }
 
 impl Reply for bool {
-    ghost answer = { λ a. truth (told a) };
+    ghost replied = { truth };
 
     ghost refuses = { λ _. refl };
 
@@ -89,7 +86,7 @@ impl Reply for bool {
 }
 
 impl Reply for TypeKind {
-    ghost answer = { λ a. map kind_number (told a) };
+    ghost replied = { map kind_number };
 
     ghost refuses = { λ _. refl };
 
@@ -99,7 +96,7 @@ impl Reply for TypeKind {
 }
 
 impl Reply for TypeInfoOffset {
-    ghost answer = { told_offset };
+    ghost replied = { map (λ o. o.0) };
 
     ghost refuses = { λ _. refl };
 
@@ -108,20 +105,20 @@ impl Reply for TypeInfoOffset {
     }
 }
 
-// A refusal's reply.
-pub fn minus(refusal: Refusal) -> i64
-    ensures { result ≡ neg_ℤ (pos (refusal_number refusal)) }
+// A refusal's reply. (A number and no `Refusal`: whatever byte a caller has is replied.)
+pub fn minus(number: u8) -> i64
+    ensures { result ≡ neg_ℤ (pos number) }
 {
-    -(refusal.number() as i64)
+    -(number as i64)
 }
 
 // The number, or the refusal. (It is stated of the bits of an i64, as a caller that hands it on reads it.)
-pub fn of<T: Reply>(answer: Result<T, Refusal>) -> i64
-    ensures { to_z w64 (of_z w64 result) ≡ reply (T.answer answer) }
+pub fn of<T: Reply, E: Refuses>(answer: Result<T, E>) -> i64
+    ensures { to_z w64 (of_z w64 result) ≡ reply (T.replied (told_as E.number answer)) }
 {
     match answer {
         Ok(x) => x.number() as i64,
-        Err(refusal) => minus(refusal),
+        Err(refusal) => minus(refusal.number_of()),
     }
 }
 
@@ -144,8 +141,8 @@ pub fn kind_number(kind: TypeKind) -> u8
 }
 
 // How many bytes were written, or the refusal. (No output has 2^63 bytes. The test is the one of the contract, `below`.)
-pub fn of_written(answer: Result<usize, Refusal>) -> i64
-    ensures { to_z w64 (of_z w64 result) ≡ reply (map (below (2 ^ 63)) (told answer)) }
+pub fn of_written<E: Refuses>(answer: Result<usize, E>) -> i64
+    ensures { to_z w64 (of_z w64 result) ≡ reply (map (below (2 ^ 63)) (told_as E.number answer)) }
 {
     match answer {
         Ok(n) => {
@@ -155,22 +152,22 @@ pub fn of_written(answer: Result<usize, Refusal>) -> i64
                 0
             }
         }
-        Err(refused) => minus(refused),
+        Err(refused) => minus(refused.number_of()),
     }
 }
 
 // Lays the row into the output. A first run over no output tells the length.
-pub fn lay(answer: Result<Row, Refusal>, out: &mut [u8]) -> i64
-    ensures { outcome (to_z w64 (of_z w64 result)) out.new ≡ laid (told_row answer) out.old }
+pub fn lay<E: Refuses>(answer: Result<Row, E>, out: &mut [u8]) -> i64
+    ensures { outcome (to_z w64 (of_z w64 result)) out.new ≡ laid (told_row_as E.number answer) out.old }
 {
     let row = match answer {
         Ok(row) => row,
-        Err(refusal) => return minus(refusal),
+        Err(refusal) => return minus(refusal.number_of()),
     };
-    let size = row_bytes::put_row(&mut [], 0, row);
+    let size = row_bytes::put_row(&mut [], 0, Ok::<_, E>(row));
     if out.len() < size {
-        return minus(Refusal::NoSpace);
+        return minus(Refusal::NoSpace.number());
     }
-    row_bytes::put_row(&mut out[..size], 0, row);
+    row_bytes::put_row(&mut out[..size], 0, Ok::<_, E>(row));
     size as i64
 }

@@ -9,11 +9,11 @@ ghost use Rattle.records.specs.Told.{told};
 ghost use Rattle.typelib.specs.Told.{told_imp_file};
 ghost use Rattle.typelib.specs.References.{external};
 ghost use Rattle.sheet_constants.specs.Told.{told_content, told_shape};
-ghost use Rattle.rows.specs.Told.{bytes_of, numbers_of};
+ghost use Rattle.rows.specs.Told.{bytes_of, numbers_of, told_row_as};
 ghost use Rattle.rows.specs.Values.{eights, five_words, place, opt_place, reference, span, content_bytes, constant, name_entry, name_numbers};
 ghost use Rattle.emit.specs.Emit.{Emits};
 
-use records::answer::{Place, Refusal};
+use records::answer::{Place, Refusal, Refuses};
 use records::field::Record;
 use records::impfile::ImpFile;
 use records::name::NameEntry;
@@ -178,8 +178,18 @@ fn put_figures(out: &mut [u8], to: usize, a: u32, b: u32, c: u32, d: u32, e: u32
     emit::put_u32(out, t, e)
 }
 
-// The bytes of a row. (Each variant has its own bytes, as in `put_longs` and `put_content`: rows that hold closures would need the heap.)
-pub fn put_row(out: &mut [u8], to: usize, row: Row) -> usize
+// The bytes of a row, or its refusal.
+pub fn put_row<E: Refuses>(out: &mut [u8], to: usize, answer: Result<Row, E>) -> usize
+    ensures { Emits (told_row_as E.number answer) to out.old result out.new }
+{
+    match answer {
+        Ok(row) => put_values(out, to, row),
+        Err(refusal) => emit::put_refusal(to, refusal.number_of()),
+    }
+}
+
+// The bytes of a row that is there. (Each variant has its own bytes, as in `put_longs` and `put_content`: rows that hold closures would need the heap.)
+fn put_values(out: &mut [u8], to: usize, row: Row) -> usize
     ensures { Emits (value (bytes_of row)) to out.old result out.new }
 {
     match row {

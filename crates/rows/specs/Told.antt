@@ -2,14 +2,14 @@
 use Rattle.std.specs.Prelude.{List, [], ◌∷◌, ◌++◌, ℕ, Ok, Err}
 use Rattle.std.specs.declared.result.Result.{Result}
 use Rattle.records.specs.Answer.{Answer, value, refused, map}
-use Rattle.records.specs.Told.{refusal_number, told}
+use Rattle.records.specs.Told.{refusal_number, told_as}
 use Rattle.records.specs.declared.answer.Place.{Place}
 use Rattle.records.specs.declared.answer.Refusal.{Refusal}
 use Rattle.typelib.specs.Told.{told_imp_file}
 use Rattle.typelib.specs.References.{external}
-use Rattle.cursors.specs.Numbers.{Step, yielded, ended}
+use Rattle.cursors.specs.Numbers.{Step}
+use Rattle.cursors.specs.Told.{told_step_as}
 use Rattle.cursors.specs.declared.iterators.Step.{Step as StepOf}
-use Rattle.cursors.specs.declared.iterators.Step.TheVariants.{Record, Refused}
 use Rattle.description.specs.Format.{le_bytes}
 use Rattle.rows.specs.Values.{eights, five_words, reference, constant, name_entry, name_numbers}
 use Rattle.rows.specs.declared.row.Longs.{Longs}
@@ -37,15 +37,21 @@ bytes_of (row.Constant v) = constant v
 bytes_of (row.Entry e number c) = name_entry e ++ eights (number ∷ name_numbers c)
 bytes_of (row.Figures a b c d e) = five_words a b c d e
 
+-- a row, and why there is none by the number of what refuses
+abbrev pub told_row_as : {E : Type 0} → (E → ℕ) → Result Row E → Answer (List ℕ)
+told_row_as number r = map bytes_of (told_as number r)
+
 abbrev pub told_row : Result Row Refusal → Answer (List ℕ)
-told_row r = map bytes_of (told r)
+told_row = told_row_as refusal_number
 
 -- a record that was answered, told by its place
+abbrev pub told_by_as : {R E : Type 0} → (E → ℕ) → (R → Place) → Result R E → Answer Place
+told_by_as number place_of (Ok r) = value (place_of r)
+told_by_as number place_of (Err e) = refused (number e)
+
 abbrev pub told_by : {R : Type 0} → (R → Place) → Result R Refusal → Answer Place
-told_by place_of (Ok r) = value (place_of r)
-told_by place_of (Err e) = refused (refusal_number e)
+told_by = told_by_as refusal_number
 
 -- a step whose record is told by its place
-abbrev pub told_step : {R C : Type 0} → (R → Place) → StepOf R C → Step Place C
-told_step place_of (Record r number c) = yielded (place_of r) number c
-told_step place_of (Refused e c) = ended (refusal_number e) c
+abbrev pub told_step : {R C : Type 0} → (R → Place) → StepOf R C Refusal → Step Place C
+told_step = told_step_as refusal_number

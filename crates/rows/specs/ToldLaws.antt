@@ -68,30 +68,30 @@ resolved-told f (Err e) = refl
 
 -- ---- steps
 
-pub func-step-told : (a : StepOf FuncRecord FuncCursor) → told_step (λ r. record { at = r.at; len = r.len }) a ≡ told_func_step a
+pub func-step-told : (a : StepOf FuncRecord FuncCursor Refusal) → told_step (λ r. record { at = r.at; len = r.len }) a ≡ told_func_step a
 func-step-told (Record r number c) = refl
 func-step-told (Refused e c) = refl
 
-pub var-step-told : (a : StepOf VarRecord VarCursor) → told_step (λ r. record { at = r.at; len = r.len }) a ≡ told_var_step a
+pub var-step-told : (a : StepOf VarRecord VarCursor Refusal) → told_step (λ r. record { at = r.at; len = r.len }) a ≡ told_var_step a
 var-step-told (Record r number c) = refl
 var-step-told (Refused e c) = refl
 
-pub param-step-told : (a : StepOf ParameterInfo ParamCursor) → told_step (λ r. record { at = r.at; len = r.len }) a ≡ told_param_step a
+pub param-step-told : (a : StepOf ParameterInfo ParamCursor Refusal) → told_step (λ r. record { at = r.at; len = r.len }) a ≡ told_param_step a
 param-step-told (Record r number c) = refl
 param-step-told (Refused e c) = refl
 
-pub guid-step-told : (a : StepOf GuidEntry GuidCursor) → told_step (λ r. record { at = r.at; len = r.len }) a ≡ told_guid_step a
+pub guid-step-told : (a : StepOf GuidEntry GuidCursor Refusal) → told_step (λ r. record { at = r.at; len = r.len }) a ≡ told_guid_step a
 guid-step-told (Record r number c) = refl
 guid-step-told (Refused e c) = refl
 
-pub import-step-told : (a : StepOf ImpInfo ImportCursor) → told_step (λ r. record { at = r.at; len = r.len }) a ≡ told_import_step a
+pub import-step-told : (a : StepOf ImpInfo ImportCursor Refusal) → told_step (λ r. record { at = r.at; len = r.len }) a ≡ told_import_step a
 import-step-told (Record r number c) = refl
 import-step-told (Refused e c) = refl
 
-pub imp-file-step-told : (a : StepOf ImpFile ImpFileCursor) → told_step (λ r. record { at = r.at; len = r.len }) a ≡ told_imp_file_step a
+pub imp-file-step-told : (a : StepOf ImpFile ImpFileCursor Refusal) → told_step (λ r. record { at = r.at; len = r.len }) a ≡ told_imp_file_step a
 imp-file-step-told (Record r number c) = refl
 imp-file-step-told (Refused e c) = refl
 
-pub type-info-step-told : (a : StepOf TypeInfoEntry TypeInfoCursor) → told_step (λ r. record { at = r.at; len = r.len }) a ≡ told_type_info_step a
+pub type-info-step-told : (a : StepOf TypeInfoEntry TypeInfoCursor Refusal) → told_step (λ r. record { at = r.at; len = r.len }) a ≡ told_type_info_step a
 type-info-step-told (Record r number c) = refl
 type-info-step-told (Refused e c) = refl

@@ -8,31 +8,31 @@ pub mod values;
 
 ghost use Rattle.std.specs.Prelude.{◌≡◌};
 ghost use Rattle.records.specs.Answer.{map};
-ghost use Rattle.records.specs.Told.{told};
-ghost use Rattle.rows.specs.Told.{told_by, told_row};
+ghost use Rattle.records.specs.Told.{told_as};
+ghost use Rattle.rows.specs.Told.{told_by_as, told_row_as};
 ghost use Rattle.rows.specs.Values.{cursor, place};
 
 use crate::row::{Cursor, Laid, Row};
-use records::answer::Refusal;
+use records::answer::Refuses;
 use records::field::Record;
 
 // The row of an answer. (One line for each of the traits, here and below: a closure for the method would be no shorter.)
-pub fn of<T: Laid>(answer: Result<T, Refusal>) -> Result<Row, Refusal>
-    ensures { told_row result ≡ map T.bytes (told answer) }
+pub fn of<T: Laid, E: Refuses>(answer: Result<T, E>) -> Result<Row, E>
+    ensures { told_row_as E.number result ≡ map T.bytes (told_as E.number answer) }
 {
     Ok(answer?.row())
 }
 
 // The row of a record, its place.
-pub fn of_record<R: Record>(answer: Result<R, Refusal>) -> Result<Row, Refusal>
-    ensures { told_row result ≡ map place (told_by R.place answer) }
+pub fn of_record<R: Record, E: Refuses>(answer: Result<R, E>) -> Result<Row, E>
+    ensures { told_row_as E.number result ≡ map place (told_by_as E.number R.place answer) }
 {
     Ok(answer?.place().row())
 }
 
 // The row of a cursor, its numbers.
-pub fn of_cursor<C: Cursor>(answer: Result<C, Refusal>) -> Result<Row, Refusal>
-    ensures { told_row result ≡ map (cursor C.numbers) (told answer) }
+pub fn of_cursor<C: Cursor, E: Refuses>(answer: Result<C, E>) -> Result<Row, E>
+    ensures { told_row_as E.number result ≡ map (cursor C.numbers) (told_as E.number answer) }
 {
     Ok(Row::Plain(answer?.numbers()))
 }

@@ -1,14 +1,15 @@
 // The rows of cursors and of their steps.
 ghost use Rattle.std.specs.Prelude.{◌≡◌};
-ghost use Rattle.impltypes.specs.Chain.{told_impl_type_step};
-ghost use Rattle.rows.specs.Told.{told_row, told_step};
+ghost use Rattle.cursors.specs.Told.{told_step_as};
+ghost use Rattle.impltypes.specs.Chain.{told_impl_type_step_as};
+ghost use Rattle.rows.specs.Told.{told_row_as};
 ghost use Rattle.rows.specs.Values.{chain_cursor, chain_step, entry_step, func_numbers, guid_numbers, imp_file_numbers, import_numbers, name_numbers, param_numbers, step, typeinfo_numbers, var_numbers};
-ghost use Rattle.table_cursors.specs.Told.{told_name_step};
+ghost use Rattle.table_cursors.specs.Told.{told_name_step_as};
 
 use crate::row::{Cursor, Laid, Longs, Row};
 use cursors::iterators::{FuncCursor, ParamCursor, Step, VarCursor};
 use impltypes::ImplTypeCursor;
-use records::answer::Refusal;
+use records::answer::Refuses;
 use records::field::Record;
 use records::name::NameEntry;
 use records::refrecord::RefRecord;
@@ -113,8 +114,8 @@ impl Laid for ImplTypeCursor {
 
 // A record, its number and the cursor behind it. (An arm hands the refusal on, here and below: a step is no `Result`, as its cursor
 // comes back either way.)
-pub fn of_step<R: Record, C: Cursor>(taken: Step<R, C>) -> Result<Row, Refusal>
-    ensures { told_row result ≡ step C.numbers (told_step R.place taken) }
+pub fn of_step<R: Record, C: Cursor, E: Refuses>(taken: Step<R, C, E>) -> Result<Row, E>
+    ensures { told_row_as E.number result ≡ step C.numbers (told_step_as E.number R.place taken) }
 {
     match taken {
         Step::Record(record, number, next) => Ok(Row::Step(record.place(), number, next.numbers())),
@@ -122,8 +123,8 @@ pub fn of_step<R: Record, C: Cursor>(taken: Step<R, C>) -> Result<Row, Refusal>
     }
 }
 
-pub fn of_impl_type_step(taken: Step<RefRecord, ImplTypeCursor>) -> Result<Row, Refusal>
-    ensures { told_row result ≡ chain_step (told_impl_type_step taken) }
+pub fn of_impl_type_step<E: Refuses>(taken: Step<RefRecord, ImplTypeCursor, E>) -> Result<Row, E>
+    ensures { told_row_as E.number result ≡ chain_step (told_impl_type_step_as E.number taken) }
 {
     match taken {
         Step::Record(record, number, next) => Ok(Row::Chain(
@@ -141,8 +142,8 @@ pub fn of_impl_type_step(taken: Step<RefRecord, ImplTypeCursor>) -> Result<Row, 
     }
 }
 
-pub fn of_name_step(taken: Step<NameEntry, NameCursor>) -> Result<Row, Refusal>
-    ensures { told_row result ≡ entry_step (told_name_step taken) }
+pub fn of_name_step<E: Refuses>(taken: Step<NameEntry, NameCursor, E>) -> Result<Row, E>
+    ensures { told_row_as E.number result ≡ entry_step (told_name_step_as E.number taken) }
 {
     match taken {
         Step::Record(entry, number, next) => Ok(Row::Entry(entry, number, next)),

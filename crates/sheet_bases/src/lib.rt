@@ -43,7 +43,7 @@ fn put_chain(s: &[u8], lib: &Numbers, ti: TypeInfoEntry, out: &mut [u8], to: usi
 {
     match impltypes::impl_types_at(lib, &*s, ti) {
         Ok(cursor) => put_walked(&*s, lib, cursor, out, to),
-        Err(refusal) => emit::put_refusal(to, refusal),
+        Err(refusal) => emit::put_refusal(to, refusal.number()),
     }
 }
 
@@ -52,7 +52,7 @@ fn put_walked(s: &[u8], lib: &Numbers, cursor: ImplTypeCursor, out: &mut [u8], t
 {
     let count = match cursor.walk(&*s) {
         Ok(count) => count,
-        Err(refusal) => return emit::put_refusal(to, refusal),
+        Err(refusal) => return emit::put_refusal(to, refusal.number()),
     };
     let t = emit::put_le(out, to, count as u64, 4);
     put_links(&*s, lib, cursor, count, out, t)

@@ -142,7 +142,7 @@ fn put_text(s: &[u8], place: Result<Place, Refusal>, out: &mut [u8], to: usize) 
 {
     match place {
         Ok(p) => {
-            let bytes = answer::part(&*s, Ok(p));
+            let bytes = answer::part(&*s, Ok::<_, Refusal>(p));
             let t = emit::put_u8(out, to, 1);
             let t = emit::put_le(out, t, bytes.len() as u64, 4);
             emit::put_bytes(bytes, out, t)

@@ -6,13 +6,12 @@ use Rattle.std.specs.declared.result.Result.{Result}
 use Rattle.typelib.specs.Header.{type_count}
 use Rattle.util.specs.Read.{read, or_zero}
 use Rattle.records.specs.declared.answer.Place.{Place}
-use Rattle.records.specs.declared.answer.Refusal.{Refusal}
 use Rattle.member_records.specs.declared.func.FuncRecord.{FuncRecord}
 use Rattle.records.specs.declared.typeinfo.TypeInfoEntry.{TypeInfoEntry}
 use Rattle.records.specs.Answer.{Answer, value, refused, map, bind}
 use Rattle.records.specs.Attributes.{default_value_offset}
 use Rattle.records.specs.Record.{signed32}
-use Rattle.records.specs.Told.{told}
+use Rattle.records.specs.Told.{told_as}
 use Rattle.typelib.specs.declared.TypeLib.{TypeLib}
 use Rattle.cursors.specs.declared.iterators.FuncCursor.{FuncCursor}
 use Rattle.cursors.specs.declared.iterators.VarCursor.{VarCursor}
@@ -59,13 +58,14 @@ counted {n} {m} h = patched (length-le_bytes 2 0 ∙ sym (length-le_bytes 2 m)) 
 module _ (s : List ℕ) (lib : TypeLib) where
   -- ---- constants
 
-  pub constant-by : {x : Result ℤ Refusal} {z : ℤ} {n : ℕ} → x ≡ Ok z → n ≡ of_z w32 z
-      → value (encode (opt constant) (constant_of s lib n)) ≡ value (encode (opt constant) (constant_by s lib (told x)))
-  constant-by {x} {z} {n} e f = rw (e, f)
+  pub constant-by : {E : Type 0} (number : E → ℕ) {x : Result ℤ E} {z : ℤ} {n : ℕ} → x ≡ Ok z → n ≡ of_z w32 z
+      → value (encode (opt constant) (constant_of s lib n)) ≡ value (encode (opt constant) (constant_by s lib (told_as number x)))
+  constant-by number {x} {z} {n} e f = rw (e, f)
 
-  pub constant-missing : {x : Result ℤ Refusal} {e : Refusal} → x ≡ Err e → value (0 ∷ []) ≡ value (encode (opt constant) (constant_by s lib (told x)))
+  pub constant-missing : {E : Type 0} (number : E → ℕ) {x : Result ℤ E} {e : E} → x ≡ Err e
+      → value (0 ∷ []) ≡ value (encode (opt constant) (constant_by s lib (told_as number x)))
   unfolding opt
-  constant-missing {x} {e} h = rw h
+  constant-missing number {x} {e} h = rw h
 
   pub default-set : (flags : ℕ) {x a : Answer ℤ} → x ≡ a → flags / 0x20 % 2 ≡ 1
       → value (le_bytes 4 flags) ▸ value (encode (opt constant) (constant_by s lib x)) ≡ value (le_bytes 4 flags ++ encode (opt constant) (default_of s lib flags a))

@@ -1,7 +1,7 @@
 // Parameters.
 // (What an emitter takes stands apart: a struct of more than two numbers is handed on by way of memory, which made sheets slower.)
 // (`Near` is asked of each: it is a fact between the bytes, the library and the names, which stand apart.)
-ghost use Rattle.records.specs.Told.{told};
+ghost use Rattle.records.specs.Told.{told_as};
 ghost use Rattle.sheet_trees.specs.Names.{Near};
 ghost use Rattle.sheet_members.specs.Room.{Room};
 ghost use Rattle.emit.specs.Emit.{Emits};
@@ -11,7 +11,7 @@ ghost use Rattle.typelib.specs.Header.{library};
 use cursors::iterators;
 use cursors::iterators::ParamCursor;
 use member_records::func::FuncRecord;
-use records::answer::Refusal;
+use records::answer::Refuses;
 use sheet_trees::names::Names;
 use sheet_trees::{trees, values};
 use typelib::Numbers;
@@ -88,14 +88,14 @@ fn put_parameter(
 
 // The constant that an offset names: missing where the offset is. (Not one with the emitters of names: they share the test for a missing
 // offset alone, and would take the rest as a closure with its contract.)
-pub fn put_constant_by(
+pub fn put_constant_by<E: Refuses>(
     s: &[u8],
     lib: &Numbers,
-    offset: Result<i32, Refusal>,
+    offset: Result<i32, E>,
     out: &mut [u8],
     to: usize,
 ) -> usize
-    ensures { Emits (constant_by_emitted s.now (library lib.now) (told offset)) to out.old result out.new }
+    ensures { Emits (constant_by_emitted s.now (library lib.now) (told_as E.number offset)) to out.old result out.new }
 {
     let Ok(x) = offset else {
         return emit::put_u8(out, to, 0);

@@ -213,6 +213,10 @@ module _ (s : List ℕ) (lib : TypeLib) where
         let z : 0 + sum_of variable_references ys ≡ sum_of variable_references ys = omega arith in
         rw (two-more (variable edition-one N) ys, x, z)))
 
+    pub variables-empty : {c : VarCursor} → a ≡ value c → c.remaining ≡ 0 → value (figures 2 0 0 0 0) ≡ variables_counted s lib ti
+    unfolding variables_counted variables_of var_records yields numbered all sum_of le_bytes
+    variables-empty {c} g h = let q : vars_of s ti ≡ value c = sym e ∙ g in rw (q, h)
+
     pub variables-none : {n : ℕ} → a ≡ refused n → value (figures 2 0 0 0 0) ≡ variables_counted s lib ti
     unfolding variables_counted variables_of var_records numbered all sum_of le_bytes
     variables-none {n} g = let q : vars_of s ti ≡ refused n = sym e ∙ g in rw q

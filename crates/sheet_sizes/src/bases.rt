@@ -44,7 +44,7 @@ fn after_chain(s: &[u8], lib: &Numbers, ti: TypeInfoEntry, from: Ends) -> Ends
     match impltypes::impl_types_at(lib, &*s, ti) {
         Ok(cursor) => after_links(&*s, lib, cursor, from),
         Err(refusal) => Ends {
-            to: emit::put_refusal(from.to, refusal),
+            to: emit::put_refusal(from.to, refusal.number()),
             references: from.references,
         },
     }
@@ -58,7 +58,7 @@ fn after_links(s: &[u8], lib: &Numbers, cursor: ImplTypeCursor, from: Ends) -> E
 {
     if LIMIT < s.len() {
         return Ends {
-            to: emit::put_refusal(from.to, Refusal::OverLong),
+            to: emit::put_refusal(from.to, Refusal::OverLong.number()),
             references: from.references,
         };
     }
@@ -74,7 +74,7 @@ fn after_links(s: &[u8], lib: &Numbers, cursor: ImplTypeCursor, from: Ends) -> E
         };
         if s.len() - 15 <= n {
             return Ends {
-                to: emit::put_refusal(from.to, Refusal::Circle),
+                to: emit::put_refusal(from.to, Refusal::Circle.number()),
                 references: from.references,
             };
         }

@@ -133,7 +133,7 @@ fn after_type_of(s: &[u8], lib: &Numbers, index: TypeInfoIndex, from: Count) -> 
 {
     match typeinfos::typeinfo_at(lib, &*s, index) {
         Ok(ti) => after_type(&*s, lib, ti, from),
-        Err(refusal) => moved(from, emit::put_refusal(from.to, refusal)),
+        Err(refusal) => moved(from, emit::put_refusal(from.to, refusal.number())),
     }
 }
 

@@ -20,7 +20,13 @@ pub(crate) fn after_variables(s: &[u8], lib: &Numbers, ti: TypeInfoEntry, from: 
 {
     let begun = crate::moved(from, crate::ahead(from.to, 2));
     match iterators::vars(&*s, ti) {
-        Ok(cursor) => after_each(&*s, lib, ti, cursor, begun),
+        Ok(cursor) => {
+            // (where there are none, nothing need be looked up for them)
+            if cursor.remaining == 0 {
+                return begun;
+            }
+            after_each(&*s, lib, ti, cursor, begun)
+        }
         Err(_) => begun,
     }
 }

@@ -9,7 +9,7 @@ use Rattle.records.specs.declared.answer.Refusal.{Refusal}
 use Rattle.records.specs.Answer.{Answer, value, refused, map}
 use Rattle.records.specs.Counted.{file_name_bytes}
 use Rattle.records.specs.Record.{limit, part_of, bits_of, flag_set}
-use Rattle.records.specs.Told.{told, refusal_number}
+use Rattle.records.specs.Told.{told, told_as, refusal_number}
 use Rattle.typelib.specs.declared.TypeLib.{TypeLib}
 use Rattle.records.specs.declared.impfile.ImpFile.{ImpFile}
 use Rattle.typelib.specs.declared.references.ResolvedHreftype.{ResolvedHreftype}
@@ -77,34 +77,36 @@ module _ (s : List ℕ) where
     name-is offset a e = rw e (ap value (part-name (found (bytes_in s (name_bytes s lib offset)))))
 
     -- by names that were looked up
-    module _ (t : Names) {x : Result ℤ Refusal} where
+    module _ (t : Names) {E : Type 0} (number : E → ℕ) {x : Result ℤ E} where
       pub in-by : {z : ℤ} {n : ℕ} → x ≡ Ok z → n ≡ of_z w32 z
-          → value (opt_part 1 (found (bytes_in s (name_in s lib t n)))) ≡ value (opt_part 1 (name_in_by s lib t (told x)))
+          → value (opt_part 1 (found (bytes_in s (name_in s lib t n)))) ≡ value (opt_part 1 (name_in_by s lib t (told_as number x)))
       unfolding name_in_by
       in-by {z} {n} e f = rw (e, f)
 
-      pub in-missing : {e : Refusal} → x ≡ Err e → value (0 ∷ []) ≡ value (opt_part 1 (name_in_by s lib t (told x)))
+      pub in-missing : {e : E} → x ≡ Err e → value (0 ∷ []) ≡ value (opt_part 1 (name_in_by s lib t (told_as number x)))
       unfolding name_in_by opt_part
       in-missing h = rw h
 
-    pub name-by : {x : Result ℤ Refusal} {z : ℤ} {n : ℕ} → x ≡ Ok z → n ≡ of_z w32 z
-        → value (encode (opt name) (name_of s lib n)) ≡ value (encode (opt name) (name_by s lib (told x)))
+    pub name-by : {E : Type 0} (number : E → ℕ) {x : Result ℤ E} {z : ℤ} {n : ℕ} → x ≡ Ok z → n ≡ of_z w32 z
+        → value (encode (opt name) (name_of s lib n)) ≡ value (encode (opt name) (name_by s lib (told_as number x)))
     unfolding name_of name_by
-    name-by {x} {z} {n} e f = rw (e, f)
+    name-by number {x} {z} {n} e f = rw (e, f)
 
-    pub name-missing : {x : Result ℤ Refusal} {e : Refusal} → x ≡ Err e → value (0 ∷ []) ≡ value (encode (opt name) (name_by s lib (told x)))
+    pub name-missing : {E : Type 0} (number : E → ℕ) {x : Result ℤ E} {e : E} → x ≡ Err e
+        → value (0 ∷ []) ≡ value (encode (opt name) (name_by s lib (told_as number x)))
     unfolding name_by opt
-    name-missing h = rw h
+    name-missing number h = rw h
 
 -- (the byte 1 and the identifier are put as one number)
-pub memid-is : {x : Result ℤ Refusal} {z : ℤ} {n : ℕ} → x ≡ Ok z → n ≡ of_z w32 z
-    → value (le_bytes 5 (1 + 256 * n)) ≡ value (encode (opt u32) (memid_by (told x)))
+pub memid-is : {E : Type 0} (number : E → ℕ) {x : Result ℤ E} {z : ℤ} {n : ℕ} → x ≡ Ok z → n ≡ of_z w32 z
+    → value (le_bytes 5 (1 + 256 * n)) ≡ value (encode (opt u32) (memid_by (told_as number x)))
 unfolding memid_by opt
-memid-is {x} {z} {n} e f = byte-first 4 1 n (omega arith) ∙ rw (e, f)
+memid-is number {x} {z} {n} e f = byte-first 4 1 n (omega arith) ∙ rw (e, f)
 
-pub memid-missing : {x : Result ℤ Refusal} {e : Refusal} → x ≡ Err e → value (0 ∷ []) ≡ value (encode (opt u32) (memid_by (told x)))
+pub memid-missing : {E : Type 0} (number : E → ℕ) {x : Result ℤ E} {e : E} → x ≡ Err e
+    → value (0 ∷ []) ≡ value (encode (opt u32) (memid_by (told_as number x)))
 unfolding memid_by opt
-memid-missing h = rw h
+memid-missing number h = rw h
 
 -- ---- references
 

@@ -206,7 +206,7 @@ fn put_file(
     let Ok(place) = name else {
         return emit::put_u8(out, to, 0);
     };
-    let bytes = records::answer::part(&*s, Ok(place));
+    let bytes = records::answer::part(&*s, Ok::<_, Refusal>(place));
     let t = emit::put_u8(out, to, 1);
     let t = values::put_opt_guid(&*s, lib, emit::word_at(&*s, f.at, 0x00), out, t);
     let t = emit::copy_u32(&*s, f.at, 0x04, out, t);

@@ -47,7 +47,7 @@ fn put_nested(
     ensures { Emits (nested_emitted s.now (library lib.now) levels field) to out.old result out.new }
 {
     if levels == 0 {
-        return emit::put_refusal(to, Refusal::TooDeep);
+        return emit::put_refusal(to, Refusal::TooDeep.number());
     }
     let level = put_level(&*s, lib, field, out, to);
     match level.inner {

@@ -1,6 +1,6 @@
 // Numbers, names and GUIDs that may be missing: byte 0 for nothing, or byte 1 and the value.
 // (They differ in how the value is read and in how it is put: one function of all would take both as closures, and be no plainer.)
-ghost use Rattle.records.specs.Told.{told};
+ghost use Rattle.records.specs.Told.{told_as};
 ghost use Rattle.emit.specs.Emit.{counted_part, Emits};
 ghost use Rattle.sheet_trees.specs.Emitted.{NearNameByPut, NearNamePut, guid_emitted, memid_emitted, name_emitted, name_in_by_emitted, name_in_emitted};
 ghost use Rattle.typelib.specs.Header.{library};
@@ -8,7 +8,7 @@ ghost use Rattle.typelib.specs.Header.{library};
 use crate::names;
 use crate::names::Names;
 use records::answer;
-use records::answer::{Place, Refusal};
+use records::answer::{Place, Refusal, Refuses};
 use typelib::Numbers;
 
 // The bytes at a place, behind the byte 1 and their count in one byte.
@@ -20,7 +20,7 @@ fn put_counted(s: &[u8], place: Place, out: &mut [u8], to: usize) -> usize
     if end != 0 {
         return end;
     }
-    let bytes = answer::part(&*s, Ok(place));
+    let bytes = answer::part(&*s, Ok::<_, Refusal>(place));
     let t = emit::put_le(out, to, 1 + 256 * (bytes.len() as u64 % 256), 2);
     emit::put_part(&*s, place, out, t)
 }
@@ -67,16 +67,16 @@ pub fn put_name_in(
 }
 
 // A member's name: missing where its offset is.
-pub fn put_name_by(
+pub fn put_name_by<E: Refuses>(
     s: &[u8],
     lib: &Numbers,
     names: Names,
-    offset: Result<i32, Refusal>,
+    offset: Result<i32, E>,
     out: &mut [u8],
     to: usize,
 ) -> usize
-    ensures emits { Emits (name_in_by_emitted s.now (library lib.now) names (told offset)) to out.old result out.new }
-    ensures near_name_by_put { NearNameByPut s.now (library lib.now) names (told offset) to out.old result out.new }
+    ensures emits { Emits (name_in_by_emitted s.now (library lib.now) names (told_as E.number offset)) to out.old result out.new }
+    ensures near_name_by_put { NearNameByPut s.now (library lib.now) names (told_as E.number offset) to out.old result out.new }
 {
     let Ok(x) = offset else {
         return emit::put_u8(out, to, 0);
@@ -85,8 +85,8 @@ pub fn put_name_by(
 }
 
 // A member's identifier.
-pub fn put_opt_memid(memid: Result<i32, Refusal>, out: &mut [u8], to: usize) -> usize
-    ensures { Emits (memid_emitted (told memid)) to out.old result out.new }
+pub fn put_opt_memid<E: Refuses>(memid: Result<i32, E>, out: &mut [u8], to: usize) -> usize
+    ensures { Emits (memid_emitted (told_as E.number memid)) to out.old result out.new }
 {
     let Ok(x) = memid else {
         return emit::put_u8(out, to, 0);

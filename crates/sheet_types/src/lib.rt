@@ -26,7 +26,7 @@ pub fn put_type_of(
 {
     match typeinfos::typeinfo_at(lib, &*s, index) {
         Ok(ti) => put_type(&*s, lib, ti, out, to),
-        Err(refusal) => emit::put_refusal(to, refusal),
+        Err(refusal) => emit::put_refusal(to, refusal.number()),
     }
 }
 

@@ -5,33 +5,40 @@
 
 mod hex;
 
-ghost use Rattle.std.specs.Prelude.{length};
+ghost use Rattle.std.specs.Prelude.{◌≡◌, ◌≤◌, length, take, IfOk};
 ghost use Rattle.records.specs.Told.{told};
 ghost use Rattle.tlbsheet.specs.Program.{Replied};
 
 use records::answer::Refusal;
-use std::io::{self, Print, Read};
+use std::io::{self, Print, Read, Stdin};
 
-// The most bytes of input. One more is read, to see that there are more.
+// The most bytes of input. More fill the room for it, which has one byte more.
 const MOST: usize = 65_536;
 
-const MOST_READ: u64 = 65_537;
+const INPUT_ROOM: usize = 65_537;
 
-// The most bytes of a sheet.
+// The most bytes of a sheet. A line has two digits for each, and a newline.
 const SHEET_ROOM: usize = 65_536;
 
-// (The line of a sheet is written as it is: its bytes are what `hex::line` promises.)
+const LINE_ROOM: usize = 131_073;
+
+// (Nothing is allocated: the input, the sheet and its line stand in arrays on the stack.)
 fn main(rt: HostRuntime) -> io::Result<()> {
-    let mut input = Vec::new(rt.alloc());
-    rt.stdin().take(MOST_READ).read_to_end(&mut input)?;
-    let mut output = Vec::from_elem(rt.alloc(), 0u8, SHEET_ROOM)?;
-    match answer_to(&input, &mut output) {
-        Ok(size) => {
-            output.truncate(size);
-            rt.write_all(&hex::line(rt.alloc(), &output)?)
-        }
+    let mut input = [0u8; INPUT_ROOM];
+    let mut output = [0u8; SHEET_ROOM];
+    let size = fill(&mut rt.stdin(), &mut input)?;
+    match answer_to(front(&input, size), &mut output) {
+        Ok(size) => show_sheet(&rt, front(&output, size)),
         Err(refusal) => println!(rt; "refused {}", refusal.number()),
     }
+}
+
+// Reads standard input to its end or until the room is full, and replies how many bytes it has.
+fn fill(stdin: &mut Stdin, input: &mut [u8; INPUT_ROOM]) -> io::Result<usize>
+    ensures { IfOk result (λ size. size ≤ INPUT_ROOM) }
+{
+    let size = io::copy(&mut stdin.take(INPUT_ROOM as u64), &mut &mut input[..])?;
+    Ok(INPUT_ROOM.min(size as usize))
 }
 
 // The sheet of the input, written to the front of the output: how many bytes it has.
@@ -42,4 +49,20 @@ fn answer_to(input: &[u8], output: &mut [u8]) -> Result<usize, Refusal>
         return Err(Refusal::OverLong);
     }
     sheet::sheet(&*input, output)
+}
+
+// Prints a sheet as a line.
+fn show_sheet(rt: &HostRuntime, sheet: &[u8]) -> io::Result<()>
+    requires { length sheet.now ≤ SHEET_ROOM }
+{
+    let mut line = [0u8; LINE_ROOM];
+    let size = hex::put_line(sheet, &mut line);
+    rt.write_all(front(&line, size))
+}
+
+// The first `size` bytes; all of them where there are fewer.
+fn front(s: &[u8], size: usize) -> &[u8]
+    ensures { result.now ≡ take size s.now }
+{
+    s.get(..size).unwrap_or(s)
 }

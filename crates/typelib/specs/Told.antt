@@ -2,21 +2,20 @@
 use Rattle.std.specs.Prelude.{ℕ, Ok, Err}
 use Rattle.std.specs.declared.result.Result.{Result}
 use Rattle.records.specs.declared.answer.Refusal.{Refusal}
-use Rattle.records.specs.Told.{refusal_number}
+use Rattle.records.specs.Told.{refusal_number, told}
 use Rattle.typelib.specs.declared.TypeInfoOffset.{TypeInfoOffset}
 use Rattle.typelib.specs.declared.TypeInfoIndex.{TypeInfoIndex}
 use Rattle.records.specs.declared.typeinfo.TypeInfoEntry.{TypeInfoEntry}
 use Rattle.records.specs.declared.arraydesc.ArrayDesc.{ArrayDesc}
 use Rattle.records.specs.declared.impfile.ImpFile.{ImpFile}
 use Rattle.records.specs.declared.answer.Place.{Place}
-use Rattle.records.specs.Answer.{Answer, value, refused}
+use Rattle.records.specs.Answer.{Answer, value, refused, map}
 use Rattle.typelib.specs.declared.references.ResolvedHreftype.{ResolvedHreftype}
 use Rattle.typelib.specs.declared.references.ResolvedHreftype.TheVariants as href
 use Rattle.typelib.specs.References.{Resolved, internal, external}
 
 abbrev pub told_offset : Result TypeInfoOffset Refusal → Answer ℕ
-told_offset (Ok o) = value o.0
-told_offset (Err e) = refused (refusal_number e)
+told_offset r = map (λ o. o.0) (told r)
 
 abbrev pub told_type_info : Result TypeInfoEntry Refusal → Answer Place
 told_type_info (Ok t) = value (record { at = t.at; len = t.len })

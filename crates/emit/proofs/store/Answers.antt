@@ -1,11 +1,13 @@
-use Rattle.std.proofs.Common.{◌≡◌, ◌+◌, ◌-◌, length, take, drop, sym, ◌∙◌, append_assoc, drop-drop, arith}
-use Rattle.std.proofs.lemmas.List.Edits.{sets-eq}
+use Rattle.std.proofs.Common.{add-zero, arith, length-set}
+use mathlib.Core.Path.{refl}
+use Rattle.emit.specs.Laws.{copy-turn, copy_done}
 use Rattle.emit.proofs.store.Goals as goal
 
+pub loop-i-init : goal.loop-i-init
+loop-i-init c = (rw (add-zero c.args.at), refl)
+
+pub loop-i-preserved : goal.loop-i-preserved
+loop-i-preserved c = (copy-turn c.loop-i.out _ c.args.bytes.now c.args.at c.loop-i.i (omega arith) c.loop-i.invariant.0, simp length-set c.loop-i.invariant.1)
+
 pub returns : goal.returns
-returns c =
-    let o = c.args.out.now in
-    let at = c.args.at in
-    let bs = c.args.bytes.now in
-    let count : at + length bs - at ≡ length bs = omega arith in
-    rw (count, c.copy_from_slice.ensures.after, drop-drop (length bs) at o) (sym (append_assoc (take at o) bs (drop (at + length bs) o)) ∙ sym (sets-eq bs o at c.requires))
+returns c = copy_done c.loop-i.out _ c.args.bytes.now c.args.at c.loop-i.i (omega arith) c.loop-i.invariant.0

@@ -2,7 +2,7 @@
 //! one, so the answers are document 01's and document 02's, by `rules.rs`. Where the reference's own code, kept to
 //! its tables, answers when a library's numbers are put beside other bytes, it must answer the same.
 //!
-//! That too many bytes are 1 to every entry is in no file: the replay has no memory for so many.
+//! That too many bytes are 1 to every entry is in no file: the replay takes no file of so many.
 
 mod rules;
 

@@ -1,3 +1,4 @@
+use Rattle.std.specs.Prelude.{pos, neg_ℤ}
 use Rattle.std.proofs.Common.{◌∙◌, ap, refl}
 use Rattle.std.specs.Int.{w64}
 use Rattle.std.proofs.lemmas.Int.{to_z-of_z}
@@ -12,4 +13,4 @@ returns-in-Ok c = ap reply (in-library (λ _. value 0) c.args.s.now c.parse.resu
 
 pub returns-in-Err : goal.returns-in-Err
 unfolding reply
-returns-in-Err c = to_z-of_z w64 c.minus.result (record { sfits = c.minus.type_inv }) ∙ c.minus.ensures ∙ ap reply (no-library (λ _. value 0) c.args.s.now c.parse.result c.parse.ensures c.in-Err.is)
+returns-in-Err c = to_z-of_z w64 c.minus.result (record { sfits = c.minus.type_inv }) ∙ c.minus.ensures ∙ ap (λ n. neg_ℤ (pos n)) c.number.ensures ∙ ap reply (no-library (λ _. value 0) c.args.s.now c.parse.result c.parse.ensures c.in-Err.is)

@@ -1,5 +1,5 @@
 use Rattle.std.specs.Prelude.{◌≡◌, ℕ, ◌<◌}
-use Rattle.std.proofs.Common.{arith, sym, ap, ◌∙◌}
+use Rattle.std.proofs.Common.{arith}
 use lib.IntN.{pos, neg_ℤ, ◌-ℤ◌, +ℤ_idl}
 use mir.Syntax.{w64}
 use mir.Val.{to_z}
@@ -11,7 +11,7 @@ negated : (n : ℕ) → n < 256 → pos 0 -ℤ to_z w64 n ≡ neg_ℤ (pos n)
 negated n h = rw (to_z_pos w64 n (omega arith)) (+ℤ_idl (neg_ℤ (pos n)))
 
 pub overflow_sub-result : goal.overflow_sub-result
-overflow_sub-result c = rw (negated c.number.result (omega arith)) (minus-fits c.number.result (omega arith))
+overflow_sub-result c = rw (negated c.args.number (omega arith)) (minus-fits c.args.number (omega arith))
 
 pub returns : goal.returns
-returns c = rw (negated c.number.result (omega arith)) (to_z-of_z w64 _ (minus-fits c.number.result (omega arith)) ∙ ap (λ n. neg_ℤ (pos n)) c.number.ensures)
+returns c = rw (negated c.args.number (omega arith)) (to_z-of_z w64 _ (minus-fits c.args.number (omega arith)))

@@ -1,3 +1,4 @@
+use Rattle.emit.specs.Laws.{numbered}
 use mathlib.Core.List.{[]}
 use mathlib.Core.Path.{ap}
 use Rattle.sheet_sizes.proofs.CountLaws.{known-e, refusing-e}
@@ -9,4 +10,4 @@ pub returns-in-Ok : goal.returns-in-Ok
 returns-in-Ok c = known-e (chain-is _ _ _ _ c.impl_types_at.ensures (ap told c.in-Ok.is)) c.after_links.ensures
 
 pub returns-in-Err : goal.returns-in-Err
-returns-in-Err c = known-e (chain-refused _ _ _ _ c.impl_types_at.ensures (ap told c.in-Err.is)) (refusing-e _ _ _ _ (c.put_refusal.ensures []))
+returns-in-Err c = known-e (chain-refused _ _ _ _ c.impl_types_at.ensures (ap told c.in-Err.is)) (refusing-e _ _ _ _ (numbered c.number.ensures (c.put_refusal.ensures [])))
