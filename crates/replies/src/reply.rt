@@ -6,7 +6,7 @@ ghost use Rattle.records.specs.Answer.{Answer, map, value, refused};
 ghost use Rattle.records.specs.Told.{told_as};
 ghost use Rattle.replies.specs.Call.{reply, bits16, bits32, truth, kind_number, outcome, laid};
 ghost use Rattle.replies.specs.Written.{below};
-ghost use Rattle.rows.specs.Told.{told_row_as};
+ghost use Rattle.rows.specs.Told.{told_row_within};
 
 use records::answer::{Refusal, Refuses};
 use records::types::TypeKind;
@@ -156,9 +156,9 @@ pub fn of_written<E: Refuses>(answer: Result<usize, E>) -> i64
     }
 }
 
-// Lays the row into the output. A first run over no output tells the length.
-pub fn lay<E: Refuses>(answer: Result<Row, E>, out: &mut [u8]) -> i64
-    ensures { outcome (to_z w64 (of_z w64 result)) out.new ≡ laid (told_row_as E.number answer) out.old }
+// Lays the row into the output. A first run over no output tells the length. (`E` refuses the row, `F` the file in it.)
+pub fn lay<F: Refuses, E: Refuses>(answer: Result<Row<F>, E>, out: &mut [u8]) -> i64
+    ensures { outcome (to_z w64 (of_z w64 result)) out.new ≡ laid (told_row_within F.number E.number answer) out.old }
 {
     let row = match answer {
         Ok(row) => row,

@@ -5,11 +5,11 @@
 
 ghost use Rattle.std.specs.Prelude.{◌∷◌, [], ◌++◌, ◌≡◌};
 ghost use Rattle.records.specs.Answer.{value};
-ghost use Rattle.records.specs.Told.{told};
-ghost use Rattle.typelib.specs.Told.{told_imp_file};
+ghost use Rattle.records.specs.Told.{told, told_as};
+ghost use Rattle.typelib.specs.Told.{told_imp_file_as};
 ghost use Rattle.typelib.specs.References.{external};
 ghost use Rattle.sheet_constants.specs.Told.{told_content, told_shape};
-ghost use Rattle.rows.specs.Told.{bytes_of, numbers_of, told_row_as};
+ghost use Rattle.rows.specs.Told.{bytes_of_as, numbers_of, told_row_within};
 ghost use Rattle.rows.specs.Values.{eights, five_words, place, opt_place, reference, span, content_bytes, constant, name_entry, name_numbers};
 ghost use Rattle.emit.specs.Emit.{Emits};
 
@@ -58,8 +58,8 @@ fn put_place(out: &mut [u8], to: usize, p: Place) -> usize
 }
 
 // 0, or 1 and the place.
-fn put_opt_place(out: &mut [u8], to: usize, a: Result<Place, Refusal>) -> usize
-    ensures { Emits (value (opt_place (told a))) to out.old result out.new }
+fn put_opt_place<E: Refuses>(out: &mut [u8], to: usize, a: Result<Place, E>) -> usize
+    ensures { Emits (value (opt_place (told_as E.number a))) to out.old result out.new }
 {
     match a {
         Ok(p) => {
@@ -71,8 +71,8 @@ fn put_opt_place(out: &mut [u8], to: usize, a: Result<Place, Refusal>) -> usize
 }
 
 // The record of an import, and the file that it names.
-fn put_import(out: &mut [u8], to: usize, info: Place, file: Result<ImpFile, Refusal>) -> usize
-    ensures { Emits (value (reference (external info (told_imp_file file)))) to out.old result out.new }
+fn put_import<F: Refuses>(out: &mut [u8], to: usize, info: Place, file: Result<ImpFile, F>) -> usize
+    ensures { Emits (value (reference (external info (told_imp_file_as F.number file)))) to out.old result out.new }
 {
     let t = emit::put_u8(out, to, 2);
     let t = put_place(out, t, info);
@@ -80,8 +80,8 @@ fn put_import(out: &mut [u8], to: usize, info: Place, file: Result<ImpFile, Refu
 }
 
 // (One line, as `rows::of` is: a closure for the method would be no shorter.)
-fn file_place(file: Result<ImpFile, Refusal>) -> Result<Place, Refusal>
-    ensures { told result ≡ told_imp_file file }
+fn file_place<F: Refuses>(file: Result<ImpFile, F>) -> Result<Place, F>
+    ensures { told_as F.number result ≡ told_imp_file_as F.number file }
 {
     Ok(file?.place())
 }
@@ -178,9 +178,13 @@ fn put_figures(out: &mut [u8], to: usize, a: u32, b: u32, c: u32, d: u32, e: u32
     emit::put_u32(out, t, e)
 }
 
-// The bytes of a row, or its refusal.
-pub fn put_row<E: Refuses>(out: &mut [u8], to: usize, answer: Result<Row, E>) -> usize
-    ensures { Emits (told_row_as E.number answer) to out.old result out.new }
+// The bytes of a row, or its refusal. (`E` refuses the row, `F` the file in it.)
+pub fn put_row<F: Refuses, E: Refuses>(
+    out: &mut [u8],
+    to: usize,
+    answer: Result<Row<F>, E>,
+) -> usize
+    ensures { Emits (told_row_within F.number E.number answer) to out.old result out.new }
 {
     match answer {
         Ok(row) => put_values(out, to, row),
@@ -189,8 +193,8 @@ pub fn put_row<E: Refuses>(out: &mut [u8], to: usize, answer: Result<Row, E>) ->
 }
 
 // The bytes of a row that is there. (Each variant has its own bytes, as in `put_longs` and `put_content`: rows that hold closures would need the heap.)
-fn put_values(out: &mut [u8], to: usize, row: Row) -> usize
-    ensures { Emits (value (bytes_of row)) to out.old result out.new }
+fn put_values<F: Refuses>(out: &mut [u8], to: usize, row: Row<F>) -> usize
+    ensures { Emits (value (bytes_of_as F.number row)) to out.old result out.new }
 {
     match row {
         Row::Plain(l) => put_longs(out, to, l),

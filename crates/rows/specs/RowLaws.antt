@@ -10,12 +10,13 @@ use Rattle.records.specs.declared.answer.Place.{Place}
 use Rattle.records.specs.declared.answer.Refusal.{Refusal}
 use Rattle.std.specs.declared.result.Result.{Result}
 use Rattle.records.specs.declared.types.ConstValue.{ConstValue}
-use Rattle.typelib.specs.Told.{told_imp_file}
+use Rattle.records.specs.Told.{refusal_number}
+use Rattle.typelib.specs.Told.{told_imp_file_as}
 use Rattle.description.specs.Format.{length-le_bytes}
 use Rattle.description.specs.Description.{Shape, shapes, shape_of}
 use Rattle.describe.specs.Constants.{Content, content_of, place_in}
 use Rattle.rows.specs.Values.{eights, opt_place, span, content_bytes, constant}
-use Rattle.rows.specs.Told.{numbers_of, bytes_of, told_row}
+use Rattle.rows.specs.Told.{numbers_of, bytes_of, bytes_of_as, told_row, told_row_within}
 use Rattle.rows.specs.declared.row.Longs.{Longs}
 use Rattle.rows.specs.declared.row.Longs.TheVariants as longs
 use Rattle.rows.specs.declared.row.Row.{Row}
@@ -83,19 +84,26 @@ unfolding constant
 constant-short v =
     simp (length-append, length-le_bytes) (omega (arith, content-short (shape_of (vt_of v)) (content_of v), shape-short (vt_of v)))
 
-pub bytes-short : (r : Row) → length (bytes_of r) ≤ limit
-bytes-short (row.Plain l) = omega (arith, length-eights (numbers_of l), longs-short l)
-bytes-short (row.Words a b) = simp (length-append, length-le_bytes) (omega arith)
-bytes-short (row.Step p number l) = omega (arith, length-eights (p.at ∷ p.len ∷ number ∷ numbers_of l), longs-short l)
-bytes-short (row.Chain l next yielded) = simp (length-append, length-le_bytes, length-eights) (omega (arith, longs-short l))
-bytes-short (row.Marked m l) = omega (arith, length-eights (numbers_of l), longs-short l)
-bytes-short (row.Half m a) = simp length-le_bytes (omega arith)
-bytes-short (row.Word m a) = simp length-le_bytes (omega arith)
-bytes-short (row.Import p f) = simp (length-append, length-le_bytes) (omega (arith, opt-short (told_imp_file f)))
-bytes-short (row.Constant v) = omega (arith, constant-short v)
-bytes-short (row.Entry e number c) = simp (length-append, length-le_bytes) (omega arith)
-bytes-short (row.Figures a b c d e) = simp (length-append, length-le_bytes) (omega arith)
+-- whatever refuses, here and below
+pub bytes-short-as : {F : Type 0} (number : F → ℕ) (r : Row F) → length (bytes_of_as number r) ≤ limit
+bytes-short-as number (row.Plain l) = omega (arith, length-eights (numbers_of l), longs-short l)
+bytes-short-as number (row.Words a b) = simp (length-append, length-le_bytes) (omega arith)
+bytes-short-as number (row.Step p n l) = omega (arith, length-eights (p.at ∷ p.len ∷ n ∷ numbers_of l), longs-short l)
+bytes-short-as number (row.Chain l next yielded) = simp (length-append, length-le_bytes, length-eights) (omega (arith, longs-short l))
+bytes-short-as number (row.Marked m l) = omega (arith, length-eights (numbers_of l), longs-short l)
+bytes-short-as number (row.Half m a) = simp length-le_bytes (omega arith)
+bytes-short-as number (row.Word m a) = simp length-le_bytes (omega arith)
+bytes-short-as number (row.Import p f) = simp (length-append, length-le_bytes) (omega (arith, opt-short (told_imp_file_as number f)))
+bytes-short-as number (row.Constant v) = omega (arith, constant-short v)
+bytes-short-as number (row.Entry e n c) = simp (length-append, length-le_bytes) (omega arith)
+bytes-short-as number (row.Figures a b c d e) = simp (length-append, length-le_bytes) (omega arith)
 
-pub row-short : (r : Result Row Refusal) → length_of (told_row r) ≤ limit
-row-short (Ok r) = bytes-short r
-row-short (Err e) = omega arith
+pub bytes-short : (r : Row Refusal) → length (bytes_of r) ≤ limit
+bytes-short = bytes-short-as refusal_number
+
+pub row-short-within : {F E : Type 0} (within : F → ℕ) (number : E → ℕ) (r : Result (Row F) E) → length_of (told_row_within within number r) ≤ limit
+row-short-within within number (Ok r) = bytes-short-as within r
+row-short-within within number (Err e) = omega arith
+
+pub row-short : (r : Result (Row Refusal) Refusal) → length_of (told_row r) ≤ limit
+row-short = row-short-within refusal_number refusal_number

@@ -5,7 +5,7 @@ use Rattle.records.specs.Answer.{Answer, value, refused, map}
 use Rattle.records.specs.Told.{refusal_number, told_as}
 use Rattle.records.specs.declared.answer.Place.{Place}
 use Rattle.records.specs.declared.answer.Refusal.{Refusal}
-use Rattle.typelib.specs.Told.{told_imp_file}
+use Rattle.typelib.specs.Told.{told_imp_file_as}
 use Rattle.typelib.specs.References.{external}
 use Rattle.cursors.specs.Numbers.{Step}
 use Rattle.cursors.specs.Told.{told_step_as}
@@ -24,24 +24,31 @@ numbers_of (longs.Three a b c) = a ∷ b ∷ c ∷ []
 numbers_of (longs.Four a b c d) = a ∷ b ∷ c ∷ d ∷ []
 numbers_of (longs.Five a b c d e) = a ∷ b ∷ c ∷ d ∷ e ∷ []
 
-abbrev pub bytes_of : Row → List ℕ
-bytes_of (row.Plain l) = eights (numbers_of l)
-bytes_of (row.Words a b) = le_bytes 4 a ++ le_bytes 4 b
-bytes_of (row.Step p number l) = eights (p.at ∷ p.len ∷ number ∷ numbers_of l)
-bytes_of (row.Chain l next count) = eights (numbers_of l) ++ (le_bytes 4 next ++ le_bytes 8 count)
-bytes_of (row.Marked m l) = m ∷ eights (numbers_of l)
-bytes_of (row.Half m a) = m ∷ le_bytes 2 a
-bytes_of (row.Word m a) = m ∷ le_bytes 4 a
-bytes_of (row.Import p f) = reference (external p (told_imp_file f))
-bytes_of (row.Constant v) = constant v
-bytes_of (row.Entry e number c) = name_entry e ++ eights (number ∷ name_numbers c)
-bytes_of (row.Figures a b c d e) = five_words a b c d e
+-- the bytes of a row; `number` is of what refuses the file in it
+abbrev pub bytes_of_as : {F : Type 0} → (F → ℕ) → Row F → List ℕ
+bytes_of_as number (row.Plain l) = eights (numbers_of l)
+bytes_of_as number (row.Words a b) = le_bytes 4 a ++ le_bytes 4 b
+bytes_of_as number (row.Step p n l) = eights (p.at ∷ p.len ∷ n ∷ numbers_of l)
+bytes_of_as number (row.Chain l next count) = eights (numbers_of l) ++ (le_bytes 4 next ++ le_bytes 8 count)
+bytes_of_as number (row.Marked m l) = m ∷ eights (numbers_of l)
+bytes_of_as number (row.Half m a) = m ∷ le_bytes 2 a
+bytes_of_as number (row.Word m a) = m ∷ le_bytes 4 a
+bytes_of_as number (row.Import p f) = reference (external p (told_imp_file_as number f))
+bytes_of_as number (row.Constant v) = constant v
+bytes_of_as number (row.Entry e n c) = name_entry e ++ eights (n ∷ name_numbers c)
+bytes_of_as number (row.Figures a b c d e) = five_words a b c d e
 
--- a row, and why there is none by the number of what refuses
-abbrev pub told_row_as : {E : Type 0} → (E → ℕ) → Result Row E → Answer (List ℕ)
-told_row_as number r = map bytes_of (told_as number r)
+abbrev pub bytes_of : Row Refusal → List ℕ
+bytes_of = bytes_of_as refusal_number
 
-abbrev pub told_row : Result Row Refusal → Answer (List ℕ)
+-- a row that was answered; `within` is of what refuses the file in it, `number` of what refuses the answer
+abbrev pub told_row_within : {F E : Type 0} → (F → ℕ) → (E → ℕ) → Result (Row F) E → Answer (List ℕ)
+told_row_within within number r = map (bytes_of_as within) (told_as number r)
+
+abbrev pub told_row_as : {E : Type 0} → (E → ℕ) → Result (Row Refusal) E → Answer (List ℕ)
+told_row_as = told_row_within refusal_number
+
+abbrev pub told_row : Result (Row Refusal) Refusal → Answer (List ℕ)
 told_row = told_row_as refusal_number
 
 -- a record that was answered, told by its place

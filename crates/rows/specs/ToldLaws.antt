@@ -2,7 +2,7 @@
 use Rattle.std.specs.Prelude.{◌≡◌, refl, ℕ, Ok, Err}
 use Rattle.std.specs.declared.result.Result.{Result}
 use Rattle.records.specs.Answer.{Answer, map}
-use Rattle.records.specs.Told.{told, told_guid}
+use Rattle.records.specs.Told.{refusal_number, told, told_as, told_guid}
 use Rattle.records.specs.declared.answer.Place.{Place}
 use Rattle.records.specs.declared.answer.Refusal.{Refusal}
 use Rattle.records.specs.declared.guid.Guid.{Guid}
@@ -15,7 +15,7 @@ use Rattle.member_records.specs.Told.{told_var}
 use Rattle.member_records.specs.declared.func.FuncRecord.{FuncRecord}
 use Rattle.member_records.specs.declared.param.ParameterInfo.{ParameterInfo}
 use Rattle.member_records.specs.declared.var.VarRecord.{VarRecord}
-use Rattle.typelib.specs.Told.{told_array_desc, told_imp_file, told_index, told_hreftype, told_resolved, told_type_info}
+use Rattle.typelib.specs.Told.{told_array_desc, told_imp_file, told_index, told_hreftype, told_hreftype_as, told_resolved, told_resolved_as, told_type_info}
 use Rattle.typelib.specs.References.{Resolved}
 use Rattle.typelib.specs.declared.TypeInfoIndex.{TypeInfoIndex}
 use Rattle.typelib.specs.declared.references.ResolvedHreftype.{ResolvedHreftype}
@@ -61,10 +61,15 @@ pub index-told : {B : Type 0} (f : ℕ → B) (a : Result TypeInfoIndex Refusal)
 index-told f (Ok i) = refl
 index-told f (Err e) = refl
 
-pub resolved-told : {B : Type 0} (f : Resolved → B) (a : Result ResolvedHreftype Refusal)
-    → map (λ (x : ResolvedHreftype). f (told_hreftype x)) (told a) ≡ map f (told_resolved a)
-resolved-told f (Ok x) = refl
-resolved-told f (Err e) = refl
+-- whatever refuses the file, and the answer
+pub resolved-told-as : {F E B : Type 0} (within : F → ℕ) (number : E → ℕ) (f : Resolved → B) (a : Result (ResolvedHreftype F) E)
+    → map (λ (x : ResolvedHreftype F). f (told_hreftype_as within x)) (told_as number a) ≡ map f (told_resolved_as within number a)
+resolved-told-as within number f (Ok x) = refl
+resolved-told-as within number f (Err e) = refl
+
+pub resolved-told : {B : Type 0} (f : Resolved → B) (a : Result (ResolvedHreftype Refusal) Refusal)
+    → map (λ (x : ResolvedHreftype Refusal). f (told_hreftype x)) (told a) ≡ map f (told_resolved a)
+resolved-told = resolved-told-as refusal_number refusal_number
 
 -- ---- steps
 

@@ -9,7 +9,7 @@ pub mod values;
 ghost use Rattle.std.specs.Prelude.{◌≡◌};
 ghost use Rattle.records.specs.Answer.{map};
 ghost use Rattle.records.specs.Told.{told_as};
-ghost use Rattle.rows.specs.Told.{told_by_as, told_row_as};
+ghost use Rattle.rows.specs.Told.{told_by_as, told_row_as, told_row_within};
 ghost use Rattle.rows.specs.Values.{cursor, place};
 
 use crate::row::{Cursor, Laid, Row};
@@ -17,8 +17,8 @@ use records::answer::Refuses;
 use records::field::Record;
 
 // The row of an answer. (One line for each of the traits, here and below: a closure for the method would be no shorter.)
-pub fn of<T: Laid, E: Refuses>(answer: Result<T, E>) -> Result<Row, E>
-    ensures { told_row_as E.number result ≡ map T.bytes (told_as E.number answer) }
+pub fn of<T: Laid, E: Refuses>(answer: Result<T, E>) -> Result<Row<T::FileRefusal>, E>
+    ensures { told_row_within T.FileRefusal.number E.number result ≡ map T.bytes (told_as E.number answer) }
 {
     Ok(answer?.row())
 }

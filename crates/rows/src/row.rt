@@ -1,8 +1,8 @@
 // What is laid into an output: a row of numbers, each with its width. (`row_bytes` writes its bytes.)
 ghost use Rattle.std.specs.Prelude.{◌≡◌, List, ℕ};
-ghost use Rattle.rows.specs.Told.{bytes_of, numbers_of};
+ghost use Rattle.rows.specs.Told.{bytes_of_as, numbers_of};
 
-use records::answer::{Place, Refusal};
+use records::answer::{Place, Refusal, Refuses};
 use records::impfile::ImpFile;
 use records::name::NameEntry;
 use records::types::ConstValue;
@@ -18,8 +18,9 @@ pub enum Longs {
     Five(u64, u64, u64, u64, u64),
 }
 
+// (`F` is what the file of an import is refused with: a `Refusal` in a reading's row.)
 #[derive(Clone, Copy)]
-pub enum Row {
+pub enum Row<F = Refusal> {
     Plain(Longs),
     Words(u32, u32),
     // A record's place and its number, and the numbers of the cursor behind it.
@@ -31,7 +32,7 @@ pub enum Row {
     Half(u8, u16),
     Word(u8, u32),
     // The record of an import, and the file that it names.
-    Import(Place, Result<ImpFile, Refusal>),
+    Import(Place, Result<ImpFile, F>),
     Constant(ConstValue),
     // An entry, its number, and the cursor behind it.
     Entry(NameEntry, u64, NameCursor),
@@ -41,10 +42,13 @@ pub enum Row {
 
 // A value that is laid as a row.
 pub trait Laid: Copy {
+    // What the file in the value is refused with; a `Refusal` if it holds no file.
+    type FileRefusal: Refuses;
+
     ghost bytes: { Self → List ℕ };
 
-    fn row(self) -> Row
-        ensures { bytes_of result ≡ bytes self };
+    fn row(self) -> Row<Self::FileRefusal>
+        ensures { bytes_of_as Self.FileRefusal.number result ≡ bytes self };
 }
 
 // A cursor that is laid as its numbers.

@@ -9,7 +9,7 @@ ghost use Rattle.table_cursors.specs.Told.{told_name_step_as};
 use crate::row::{Cursor, Laid, Longs, Row};
 use cursors::iterators::{FuncCursor, ParamCursor, Step, VarCursor};
 use impltypes::ImplTypeCursor;
-use records::answer::Refuses;
+use records::answer::{Refusal, Refuses};
 use records::field::Record;
 use records::name::NameEntry;
 use records::refrecord::RefRecord;
@@ -103,6 +103,8 @@ impl Cursor for TypeInfoCursor {
 }
 
 impl Laid for ImplTypeCursor {
+    type FileRefusal = Refusal;
+
     ghost bytes = { chain_cursor };
 
     fn row(self) -> Row {

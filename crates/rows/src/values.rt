@@ -1,10 +1,10 @@
 // The row of each kind of value. (Each gives its own: the numbers, their order and the marks before them are what C sees.)
 ghost use Rattle.std.specs.Prelude.{◌≡◌, cond};
 ghost use Rattle.rows.specs.Values.{bound, constant, description, pair, place, reference, size, text_check};
-ghost use Rattle.typelib.specs.Told.{told_hreftype};
+ghost use Rattle.typelib.specs.Told.{told_hreftype_as};
 
 use crate::row::{Laid, Longs, Row};
-use records::answer::Place;
+use records::answer::{Place, Refusal, Refuses};
 use records::arraydesc::SafeArrayBound;
 use records::field::Record;
 use records::types::{ConstValue, TypeDescription};
@@ -21,6 +21,8 @@ pub fn bit(b: bool) -> u8
 }
 
 impl Laid for Place {
+    type FileRefusal = Refusal;
+
     ghost bytes = { place };
 
     fn row(self) -> Row {
@@ -29,6 +31,8 @@ impl Laid for Place {
 }
 
 impl Laid for usize {
+    type FileRefusal = Refusal;
+
     ghost bytes = { size };
 
     fn row(self) -> Row {
@@ -37,6 +41,8 @@ impl Laid for usize {
 }
 
 impl Laid for TypeInfoIndex {
+    type FileRefusal = Refusal;
+
     ghost bytes = { λ i. size i.0 };
 
     fn row(self) -> Row {
@@ -45,6 +51,8 @@ impl Laid for TypeInfoIndex {
 }
 
 impl Laid for TextCheck {
+    type FileRefusal = Refusal;
+
     ghost bytes = { text_check };
 
     fn row(self) -> Row {
@@ -53,6 +61,8 @@ impl Laid for TextCheck {
 }
 
 impl Laid for SafeArrayBound {
+    type FileRefusal = Refusal;
+
     ghost bytes = { bound };
 
     fn row(self) -> Row {
@@ -61,6 +71,8 @@ impl Laid for SafeArrayBound {
 }
 
 impl Laid for WordPair {
+    type FileRefusal = Refusal;
+
     ghost bytes = { pair };
 
     fn row(self) -> Row {
@@ -69,6 +81,8 @@ impl Laid for WordPair {
 }
 
 impl Laid for ConstValue {
+    type FileRefusal = Refusal;
+
     ghost bytes = { constant };
 
     fn row(self) -> Row {
@@ -77,6 +91,8 @@ impl Laid for ConstValue {
 }
 
 impl Laid for TypeDescription {
+    type FileRefusal = Refusal;
+
     ghost bytes = { description };
 
     fn row(self) -> Row {
@@ -92,10 +108,12 @@ impl Laid for TypeDescription {
     }
 }
 
-impl Laid for ResolvedHreftype {
-    ghost bytes = { λ x. reference (told_hreftype x) };
+impl<F: Refuses> Laid for ResolvedHreftype<F> {
+    type FileRefusal = F;
 
-    fn row(self) -> Row {
+    ghost bytes = { λ x. reference (told_hreftype_as F.number x) };
+
+    fn row(self) -> Row<F> {
         match self {
             ResolvedHreftype::Internal(index) => Row::Marked(1, Longs::One(index.0 as u64)),
             ResolvedHreftype::External(info, file) => Row::Import(info.place(), file),

@@ -200,8 +200,8 @@ module _ (s : List ℕ) (lib : TypeLib) where
   resolved-external b r {p} {imp} e = rw e
 
   -- an hreftype that has one of its low two bits set
-  module _ (h : ℕ) {a : Result ResolvedHreftype Refusal} (k : told_resolved a ≡ href_resolved s lib h) (z : h % 4 ≡ 0 → ⊥) where
-    pub reference-some : {b : ℕ} {r : ResolvedHreftype} → b ≡ h / 2 ^ 24 % 2 ^ 1 → a ≡ Ok r
+  module _ (h : ℕ) {a : Result (ResolvedHreftype Refusal) Refusal} (k : told_resolved a ≡ href_resolved s lib h) (z : h % 4 ≡ 0 → ⊥) where
+    pub reference-some : {b : ℕ} {r : ResolvedHreftype Refusal} → b ≡ h / 2 ^ 24 % 2 ^ 1 → a ≡ Ok r
         → value (reference_bytes lib (reference_from s lib b (value (told_hreftype r)))) ≡ emitted lib (reference_of s lib h)
     unfolding reference_bytes
     reference-some {b} {r} g l =

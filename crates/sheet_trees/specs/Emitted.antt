@@ -73,7 +73,7 @@ module _ (s : List ℕ) (lib : TypeLib) where
   here_emitted bit offset = value (here_bytes s (type_count lib) bit offset)
 
   -- what one comes to, `bit` being its bit 0x01000000
-  abbrev pub resolved_emitted : ℕ → ResolvedHreftype → Answer Bytes
+  abbrev pub resolved_emitted : ℕ → ResolvedHreftype Refusal → Answer Bytes
   resolved_emitted bit r = value (reference_bytes lib (reference_from s lib bit (value (told_hreftype r))))
 
   abbrev pub import_emitted : ℕ → ImpInfo → Result ImpFile Refusal → Answer Bytes

@@ -19,11 +19,12 @@ const IMPORT_TABLE: usize = 1;
 
 const IMPORT_FILES: usize = 2;
 
-// A typeinfo of this library; or an import record, and the import file that it names.
+// A typeinfo of this library; or an import record, and the import file that it names. (`F` is what the file is refused with: a `Refusal` in what a
+// reading replies.)
 #[derive(Clone, Copy)]
-pub enum ResolvedHreftype {
+pub enum ResolvedHreftype<F = Refusal> {
     Internal(TypeInfoIndex),
-    External(ImpInfo, Result<ImpFile, Refusal>),
+    External(ImpInfo, Result<ImpFile, F>),
 }
 
 impl TypeLib {
