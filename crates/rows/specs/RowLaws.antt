@@ -84,7 +84,7 @@ unfolding constant
 constant-short v =
     simp (length-append, length-le_bytes) (omega (arith, content-short (shape_of (vt_of v)) (content_of v), shape-short (vt_of v)))
 
--- whatever refuses, here and below
+-- whatever refuses the file in the row
 pub bytes-short-as : {F : Type 0} (number : F → ℕ) (r : Row F) → length (bytes_of_as number r) ≤ limit
 bytes-short-as number (row.Plain l) = omega (arith, length-eights (numbers_of l), longs-short l)
 bytes-short-as number (row.Words a b) = simp (length-append, length-le_bytes) (omega arith)
@@ -101,6 +101,7 @@ bytes-short-as number (row.Figures a b c d e) = simp (length-append, length-le_b
 pub bytes-short : (r : Row Refusal) → length (bytes_of r) ≤ limit
 bytes-short = bytes-short-as refusal_number
 
+-- whatever refuses the answer, and the file in its row
 pub row-short-within : {F E : Type 0} (within : F → ℕ) (number : E → ℕ) (r : Result (Row F) E) → length_of (told_row_within within number r) ≤ limit
 row-short-within within number (Ok r) = bytes-short-as within r
 row-short-within within number (Err e) = omega arith

@@ -45,6 +45,7 @@ bytes_of = bytes_of_as refusal_number
 abbrev pub told_row_within : {F E : Type 0} → (F → ℕ) → (E → ℕ) → Result (Row F) E → Answer (List ℕ)
 told_row_within within number r = map (bytes_of_as within) (told_as number r)
 
+-- a row whose file a `Refusal` refuses
 abbrev pub told_row_as : {E : Type 0} → (E → ℕ) → Result (Row Refusal) E → Answer (List ℕ)
 told_row_as = told_row_within refusal_number
 
