@@ -45,7 +45,7 @@ pub extern "C" fn msft_arraydesc_bound(
 ) -> i64
     ensures { outcome result out.new ≡ laid (map bound (bound_of index s.now at len)) out.old }
 {
-    reply::lay(rows::of(ArrayDesc { at, len }.bound(s, index)), out)
+    reply::lay(rows::of_within(ArrayDesc { at, len }.bound(s, index)), out)
 }
 
 // The descriptor's length with its bounds, by its count of dimensions.
@@ -53,5 +53,5 @@ pub extern "C" fn msft_arraydesc_bound(
 pub extern "C" fn msft_arraydesc_size(s: &[u8], at: usize, len: usize, out: &mut [u8]) -> i64
     ensures { outcome result out.new ≡ laid (array_desc_size_row s.now at len) out.old }
 {
-    reply::lay(rows::of(ArrayDesc { at, len }.size(s)), out)
+    reply::lay(rows::of_within(ArrayDesc { at, len }.size(s)), out)
 }

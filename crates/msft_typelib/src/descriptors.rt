@@ -16,7 +16,7 @@ pub extern "C" fn msft_type_desc(s: &[u8], offset: i32, out: &mut [u8]) -> i64
     ensures { outcome result out.new ≡ laid (type_desc_row s.now (of_z w32 offset)) out.old }
 {
     reply::lay(
-        rows::of(TypeLib::parse(s).and_then(|lib| lib.type_desc(s, offset))),
+        rows::of_within(TypeLib::parse(s).and_then(|lib| lib.type_desc(s, offset))),
         out,
     )
 }
@@ -38,7 +38,7 @@ pub extern "C" fn msft_type_description(s: &[u8], datatype: i32, out: &mut [u8])
     ensures { outcome result out.new ≡ laid (type_description_row s.now (of_z w32 datatype)) out.old }
 {
     reply::lay(
-        rows::of(TypeLib::parse(s).and_then(|lib| lib.type_description(s, datatype))),
+        rows::of_within(TypeLib::parse(s).and_then(|lib| lib.type_description(s, datatype))),
         out,
     )
 }
@@ -60,7 +60,7 @@ pub extern "C" fn msft_resolve_hreftype(s: &[u8], hreftype: i32, out: &mut [u8])
     ensures { outcome result out.new ≡ laid (href_index_row s.now (of_z w32 hreftype)) out.old }
 {
     reply::lay(
-        rows::of(TypeLib::parse(s).and_then(|lib| lib.resolve_hreftype(hreftype))),
+        rows::of_within(TypeLib::parse(s).and_then(|lib| lib.resolve_hreftype(hreftype))),
         out,
     )
 }
@@ -71,7 +71,7 @@ pub extern "C" fn msft_resolve_hreftype_full(s: &[u8], hreftype: i32, out: &mut 
     ensures { outcome result out.new ≡ laid (href_row s.now (of_z w32 hreftype)) out.old }
 {
     reply::lay(
-        rows::of(TypeLib::parse(s).and_then(|lib| lib.resolve_hreftype_full(s, hreftype))),
+        rows::of_within(TypeLib::parse(s).and_then(|lib| lib.resolve_hreftype_full(s, hreftype))),
         out,
     )
 }
@@ -91,7 +91,7 @@ pub extern "C" fn msft_const_value(s: &[u8], word: i32, out: &mut [u8]) -> i64
     ensures { outcome result out.new ≡ laid (constant_row s.now (of_z w32 word)) out.old }
 {
     reply::lay(
-        rows::of(TypeLib::parse(s).and_then(|lib| constants::const_value(lib, s, word))),
+        rows::of_within(TypeLib::parse(s).and_then(|lib| constants::const_value(lib, s, word))),
         out,
     )
 }

@@ -16,7 +16,7 @@ use replies::reply;
 pub extern "C" fn msft_func_as_bytes(s: &[u8], at: usize, len: usize, out: &mut [u8]) -> i64
     ensures { outcome result out.new ≡ laid (map place (record_place (size_of func_record) s.now at len)) out.old }
 {
-    reply::lay(rows::of(FuncRecord { at, len }.as_bytes(s)), out)
+    reply::lay(rows::of_within(FuncRecord { at, len }.as_bytes(s)), out)
 }
 
 // The record's size in its low 16 bits, and the member's index.
@@ -31,7 +31,7 @@ pub extern "C" fn msft_func_info(s: &[u8], at: usize, len: usize) -> i64
 pub extern "C" fn msft_func_record_size(s: &[u8], at: usize, len: usize, out: &mut [u8]) -> i64
     ensures { outcome result out.new ≡ laid (record_size_row func_record s.now at len) out.old }
 {
-    reply::lay(rows::of(FuncRecord { at, len }.record_size(s)), out)
+    reply::lay(rows::of_within(FuncRecord { at, len }.record_size(s)), out)
 }
 
 // The type field of the result.

@@ -15,7 +15,7 @@ use replies::reply;
 pub extern "C" fn msft_guid_as_bytes(s: &[u8], at: usize, len: usize, out: &mut [u8]) -> i64
     ensures { outcome result out.new ≡ laid (map place (record_place (size_of guid) s.now at len)) out.old }
 {
-    reply::lay(rows::of(Guid { at, len }.as_bytes(s)), out)
+    reply::lay(rows::of_within(Guid { at, len }.as_bytes(s)), out)
 }
 
 #[unsafe(no_mangle)]
@@ -44,7 +44,7 @@ pub extern "C" fn msft_guid_data3(s: &[u8], at: usize, len: usize) -> i64
 pub extern "C" fn msft_guid_data4(s: &[u8], at: usize, len: usize, out: &mut [u8]) -> i64
     ensures { outcome result out.new ≡ laid (map place (place_of guid "Data4" s.now at len)) out.old }
 {
-    reply::lay(rows::of(Guid { at, len }.data4(s)), out)
+    reply::lay(rows::of_within(Guid { at, len }.data4(s)), out)
 }
 
 // The text form, `{XXXXXXXX-XXXX-XXXX-XXXX-XXXXXXXXXXXX}`.

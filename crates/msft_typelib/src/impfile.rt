@@ -54,7 +54,7 @@ pub extern "C" fn msft_impfile_size_field(s: &[u8], at: usize, len: usize) -> i6
 pub extern "C" fn msft_impfile_filename(s: &[u8], at: usize, len: usize, out: &mut [u8]) -> i64
     ensures { outcome result out.new ≡ laid (map place (file_name s.now at len)) out.old }
 {
-    reply::lay(rows::of(ImpFile { at, len }.filename(s)), out)
+    reply::lay(rows::of_within(ImpFile { at, len }.filename(s)), out)
 }
 
 // The file name, in the code page the library was built in.
@@ -67,7 +67,7 @@ pub extern "C" fn msft_impfile_filename_bytes(
 ) -> i64
     ensures { outcome result out.new ≡ laid (map place (file_name_bytes s.now at len)) out.old }
 {
-    reply::lay(rows::of(ImpFile { at, len }.filename_bytes(s)), out)
+    reply::lay(rows::of_within(ImpFile { at, len }.filename_bytes(s)), out)
 }
 
 // The entry's length with its name, filled up to a multiple of four.
@@ -75,5 +75,5 @@ pub extern "C" fn msft_impfile_filename_bytes(
 pub extern "C" fn msft_impfile_entry_size(s: &[u8], at: usize, len: usize, out: &mut [u8]) -> i64
     ensures { outcome result out.new ≡ laid (imp_file_size_row s.now at len) out.old }
 {
-    reply::lay(rows::of(ImpFile { at, len }.entry_size(s)), out)
+    reply::lay(rows::of_within(ImpFile { at, len }.entry_size(s)), out)
 }

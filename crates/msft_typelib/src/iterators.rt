@@ -108,7 +108,7 @@ pub extern "C" fn msft_impl_types(s: &[u8], at: usize, len: usize, out: &mut [u8
     ensures { outcome result out.new ≡ laid (impl_types_row s.now (typeinfo_at at len)) out.old }
 {
     reply::lay(
-        rows::of(TypeLib::parse(s).and_then(|lib| impltypes::impl_types(
+        rows::of_within(TypeLib::parse(s).and_then(|lib| impltypes::impl_types(
             lib,
             s,
             TypeInfoEntry { at, len },
@@ -301,7 +301,7 @@ pub extern "C" fn msft_walk(
     ensures { outcome result out.new ≡ laid (map size (walk_of s.now (chain_at at len next yielded))) out.old }
 {
     reply::lay(
-        rows::of(ImplTypeCursor {
+        rows::of_within(ImplTypeCursor {
             table: Place { at, len },
             next,
             yielded,
@@ -328,7 +328,7 @@ pub extern "C" fn msft_typeinfo_size_hint(s: &[u8], index: usize, out: &mut [u8]
     ensures { outcome result out.new ≡ laid (types_left_row s.now index) out.old }
 {
     reply::lay(
-        rows::of(TypeLib::parse(s).map(|lib| typeinfos_from(index).size_hint(lib))),
+        rows::of_within(TypeLib::parse(s).map(|lib| typeinfos_from(index).size_hint(lib))),
         out,
     )
 }

@@ -23,5 +23,5 @@ pub extern "C" fn msft_nameentry_name(s: &[u8], at: usize, len: usize, out: &mut
         flags: 0,
         hashcode: 0,
     };
-    reply::lay(rows::of(entry.name(s)), out)
+    reply::lay(rows::of_within(entry.name(s)), out)
 }

@@ -14,7 +14,7 @@ pub extern "C" fn msft_segment(s: &[u8], index: usize, out: &mut [u8]) -> i64
     ensures { outcome result out.new ≡ laid (segment_row s.now index) out.old }
 {
     reply::lay(
-        rows::of(TypeLib::parse(s).and_then(|lib| lib.segment(index))),
+        rows::of_within(TypeLib::parse(s).and_then(|lib| lib.segment(index))),
         out,
     )
 }
@@ -25,7 +25,7 @@ pub extern "C" fn msft_name_bytes(s: &[u8], offset: i32, out: &mut [u8]) -> i64
     ensures { outcome result out.new ≡ laid (name_bytes_row s.now (of_z w32 offset)) out.old }
 {
     reply::lay(
-        rows::of(TypeLib::parse(s).and_then(|lib| lib.name_bytes(s, offset))),
+        rows::of_within(TypeLib::parse(s).and_then(|lib| lib.name_bytes(s, offset))),
         out,
     )
 }
@@ -36,7 +36,7 @@ pub extern "C" fn msft_name(s: &[u8], offset: i32, out: &mut [u8]) -> i64
     ensures { outcome result out.new ≡ laid (name_row s.now (of_z w32 offset)) out.old }
 {
     reply::lay(
-        rows::of(TypeLib::parse(s).and_then(|lib| lib.name(s, offset))),
+        rows::of_within(TypeLib::parse(s).and_then(|lib| lib.name(s, offset))),
         out,
     )
 }
@@ -47,7 +47,7 @@ pub extern "C" fn msft_string(s: &[u8], offset: i32, out: &mut [u8]) -> i64
     ensures { outcome result out.new ≡ laid (string_row s.now (of_z w32 offset)) out.old }
 {
     reply::lay(
-        rows::of(TypeLib::parse(s).and_then(|lib| lib.string(s, offset))),
+        rows::of_within(TypeLib::parse(s).and_then(|lib| lib.string(s, offset))),
         out,
     )
 }
@@ -69,7 +69,7 @@ pub extern "C" fn msft_segment_data(s: &[u8], index: usize, out: &mut [u8]) -> i
     ensures { outcome result out.new ≡ laid (segment_data_row s.now index) out.old }
 {
     reply::lay(
-        rows::of(TypeLib::parse(s).and_then(|lib| lib.segment_data(s, index))),
+        rows::of_within(TypeLib::parse(s).and_then(|lib| lib.segment_data(s, index))),
         out,
     )
 }
@@ -79,7 +79,7 @@ pub extern "C" fn msft_guid_hash_data(s: &[u8], out: &mut [u8]) -> i64
     ensures { outcome result out.new ≡ laid (segment_data_row s.now 4) out.old }
 {
     reply::lay(
-        rows::of(TypeLib::parse(s).and_then(|lib| lib.guid_hash_data(s))),
+        rows::of_within(TypeLib::parse(s).and_then(|lib| lib.guid_hash_data(s))),
         out,
     )
 }
@@ -89,7 +89,7 @@ pub extern "C" fn msft_name_hash_data(s: &[u8], out: &mut [u8]) -> i64
     ensures { outcome result out.new ≡ laid (segment_data_row s.now 6) out.old }
 {
     reply::lay(
-        rows::of(TypeLib::parse(s).and_then(|lib| lib.name_hash_data(s))),
+        rows::of_within(TypeLib::parse(s).and_then(|lib| lib.name_hash_data(s))),
         out,
     )
 }
@@ -100,7 +100,7 @@ pub extern "C" fn msft_lib_name(s: &[u8], out: &mut [u8]) -> i64
     ensures { outcome result out.new ≡ laid (lib_name_row s.now) out.old }
 {
     reply::lay(
-        rows::of(TypeLib::parse(s).and_then(|lib| lib.lib_name(s))),
+        rows::of_within(TypeLib::parse(s).and_then(|lib| lib.lib_name(s))),
         out,
     )
 }
@@ -122,7 +122,7 @@ pub extern "C" fn msft_lib_helpstring(s: &[u8], out: &mut [u8]) -> i64
     ensures { outcome result out.new ≡ laid (lib_helpstring_row s.now) out.old }
 {
     reply::lay(
-        rows::of(TypeLib::parse(s).and_then(|lib| lib.lib_helpstring(s))),
+        rows::of_within(TypeLib::parse(s).and_then(|lib| lib.lib_helpstring(s))),
         out,
     )
 }

@@ -13,5 +13,5 @@ use replies::reply;
 pub extern "C" fn msft_text_check(s: &[u8], at: usize, len: usize, out: &mut [u8]) -> i64
     ensures { outcome result out.new ≡ laid (map text_check (check_at s.now at len)) out.old }
 {
-    reply::lay(rows::of(textcheck::text_check(s, at, len)), out)
+    reply::lay(rows::of_within(textcheck::text_check(s, at, len)), out)
 }

@@ -15,7 +15,7 @@ use replies::reply;
 pub extern "C" fn msft_typeinfo_as_bytes(s: &[u8], at: usize, len: usize, out: &mut [u8]) -> i64
     ensures { outcome result out.new ≡ laid (map place (record_place (size_of type_info_base) s.now at len)) out.old }
 {
-    reply::lay(rows::of(TypeInfoEntry { at, len }.as_bytes(s)), out)
+    reply::lay(rows::of_within(TypeInfoEntry { at, len }.as_bytes(s)), out)
 }
 
 // The kind, in the low four bits of its field.

@@ -71,7 +71,7 @@ pub extern "C" fn msft_func_name(
     ensures { outcome result out.new ≡ laid (func_name_row s.now (typeinfo_at at len) index) out.old }
 {
     reply::lay(
-        rows::of(TypeLib::parse(s).and_then(|lib| lib.func_name(
+        rows::of_within(TypeLib::parse(s).and_then(|lib| lib.func_name(
             s,
             TypeInfoEntry { at, len },
             index,
@@ -92,7 +92,7 @@ pub extern "C" fn msft_var_name(
     ensures { outcome result out.new ≡ laid (var_name_row s.now (typeinfo_at at len) index) out.old }
 {
     reply::lay(
-        rows::of(TypeLib::parse(s).and_then(|lib| lib.var_name(
+        rows::of_within(TypeLib::parse(s).and_then(|lib| lib.var_name(
             s,
             TypeInfoEntry { at, len },
             index,
@@ -108,7 +108,7 @@ pub extern "C" fn msft_member_name(s: &[u8], index: usize, k: usize, out: &mut [
     ensures { outcome result out.new ≡ laid (member_name_row s.now index k) out.old }
 {
     reply::lay(
-        rows::of(TypeLib::parse(s).and_then(|lib| table_cursors::members::member_name(
+        rows::of_within(TypeLib::parse(s).and_then(|lib| table_cursors::members::member_name(
             lib,
             s,
             TypeInfoIndex(index),

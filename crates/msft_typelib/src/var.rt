@@ -24,7 +24,7 @@ pub extern "C" fn msft_var_from_raw(s: &[u8], at: usize, len: usize, out: &mut [
 pub extern "C" fn msft_var_as_bytes(s: &[u8], at: usize, len: usize, out: &mut [u8]) -> i64
     ensures { outcome result out.new ≡ laid (map place (record_place (size_of var_record) s.now at len)) out.old }
 {
-    reply::lay(rows::of(VarRecord { at, len }.as_bytes(s)), out)
+    reply::lay(rows::of_within(VarRecord { at, len }.as_bytes(s)), out)
 }
 
 // The record's size in its low 16 bits, and the member's index.
@@ -39,7 +39,7 @@ pub extern "C" fn msft_var_info(s: &[u8], at: usize, len: usize) -> i64
 pub extern "C" fn msft_var_record_size(s: &[u8], at: usize, len: usize, out: &mut [u8]) -> i64
     ensures { outcome result out.new ≡ laid (record_size_row var_record s.now at len) out.old }
 {
-    reply::lay(rows::of(VarRecord { at, len }.record_size(s)), out)
+    reply::lay(rows::of_within(VarRecord { at, len }.record_size(s)), out)
 }
 
 // The variable's type field.

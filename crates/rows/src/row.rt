@@ -1,6 +1,6 @@
 // What is laid into an output: a row of numbers, each with its width. (`row_bytes` writes its bytes.)
 ghost use Rattle.std.specs.Prelude.{◌≡◌, List, ℕ};
-ghost use Rattle.rows.specs.Told.{bytes_of_as, numbers_of};
+ghost use Rattle.rows.specs.Told.{bytes_of, bytes_of_as, numbers_of};
 
 use records::answer::{Place, Refusal, Refuses};
 use records::impfile::ImpFile;
@@ -42,13 +42,30 @@ pub enum Row<F = Refusal> {
 
 // A value that is laid as a row.
 pub trait Laid: Copy {
+    ghost bytes: { Self → List ℕ };
+
+    fn row(self) -> Row
+        ensures { bytes_of result ≡ bytes self };
+}
+
+// The same of a value in which a file may be refused with more than a `Refusal`.
+pub trait LaidWithin: Copy {
     // What the file in the value is refused with; a `Refusal` if it holds no file.
     type FileRefusal: Refuses;
 
     ghost bytes: { Self → List ℕ };
 
-    fn row(self) -> Row<Self::FileRefusal>
+    fn row_within(self) -> Row<Self::FileRefusal>
         ensures { bytes_of_as Self.FileRefusal.number result ≡ bytes self };
+}
+
+// Where that is a `Refusal`, the value is laid as any other.
+impl<T: LaidWithin<FileRefusal = Refusal>> Laid for T {
+    ghost bytes = { T.bytes };
+
+    fn row(self) -> Row {
+        self.row_within()
+    }
 }
 
 // A cursor that is laid as its numbers.

@@ -6,7 +6,7 @@ ghost use Rattle.rows.specs.Told.{told_row_as};
 ghost use Rattle.rows.specs.Values.{chain_cursor, chain_step, entry_step, func_numbers, guid_numbers, imp_file_numbers, import_numbers, name_numbers, param_numbers, step, typeinfo_numbers, var_numbers};
 ghost use Rattle.table_cursors.specs.Told.{told_name_step_as};
 
-use crate::row::{Cursor, Laid, Longs, Row};
+use crate::row::{Cursor, LaidWithin, Longs, Row};
 use cursors::iterators::{FuncCursor, ParamCursor, Step, VarCursor};
 use impltypes::ImplTypeCursor;
 use records::answer::{Refusal, Refuses};
@@ -102,12 +102,12 @@ impl Cursor for TypeInfoCursor {
     }
 }
 
-impl Laid for ImplTypeCursor {
+impl LaidWithin for ImplTypeCursor {
     type FileRefusal = Refusal;
 
     ghost bytes = { chain_cursor };
 
-    fn row(self) -> Row {
+    fn row_within(self) -> Row {
         let table = self.table;
         let longs = Longs::Two(table.at as u64, table.len as u64);
         Row::Chain(longs, self.next, self.yielded)

@@ -3,7 +3,7 @@ ghost use Rattle.std.specs.Prelude.{◌≡◌, cond};
 ghost use Rattle.rows.specs.Values.{bound, constant, description, pair, place, reference, size, text_check};
 ghost use Rattle.typelib.specs.Told.{told_hreftype_as};
 
-use crate::row::{Laid, Longs, Row};
+use crate::row::{LaidWithin, Longs, Row};
 use records::answer::{Place, Refusal, Refuses};
 use records::arraydesc::SafeArrayBound;
 use records::field::Record;
@@ -20,82 +20,82 @@ pub fn bit(b: bool) -> u8
     b as u8
 }
 
-impl Laid for Place {
+impl LaidWithin for Place {
     type FileRefusal = Refusal;
 
     ghost bytes = { place };
 
-    fn row(self) -> Row {
+    fn row_within(self) -> Row {
         Row::Plain(Longs::Two(self.at as u64, self.len as u64))
     }
 }
 
-impl Laid for usize {
+impl LaidWithin for usize {
     type FileRefusal = Refusal;
 
     ghost bytes = { size };
 
-    fn row(self) -> Row {
+    fn row_within(self) -> Row {
         Row::Plain(Longs::One(self as u64))
     }
 }
 
-impl Laid for TypeInfoIndex {
+impl LaidWithin for TypeInfoIndex {
     type FileRefusal = Refusal;
 
     ghost bytes = { λ i. size i.0 };
 
-    fn row(self) -> Row {
-        self.0.row()
+    fn row_within(self) -> Row {
+        self.0.row_within()
     }
 }
 
-impl Laid for TextCheck {
+impl LaidWithin for TextCheck {
     type FileRefusal = Refusal;
 
     ghost bytes = { text_check };
 
-    fn row(self) -> Row {
+    fn row_within(self) -> Row {
         Row::Marked(bit(self.valid), Longs::One(self.looked as u64))
     }
 }
 
-impl Laid for SafeArrayBound {
+impl LaidWithin for SafeArrayBound {
     type FileRefusal = Refusal;
 
     ghost bytes = { bound };
 
-    fn row(self) -> Row {
+    fn row_within(self) -> Row {
         Row::Words(self.elements, self.lower.cast_unsigned())
     }
 }
 
-impl Laid for WordPair {
+impl LaidWithin for WordPair {
     type FileRefusal = Refusal;
 
     ghost bytes = { pair };
 
-    fn row(self) -> Row {
+    fn row_within(self) -> Row {
         Row::Words(self.first, self.second)
     }
 }
 
-impl Laid for ConstValue {
+impl LaidWithin for ConstValue {
     type FileRefusal = Refusal;
 
     ghost bytes = { constant };
 
-    fn row(self) -> Row {
+    fn row_within(self) -> Row {
         Row::Constant(self)
     }
 }
 
-impl Laid for TypeDescription {
+impl LaidWithin for TypeDescription {
     type FileRefusal = Refusal;
 
     ghost bytes = { description };
 
-    fn row(self) -> Row {
+    fn row_within(self) -> Row {
         match self {
             TypeDescription::Base(code) => Row::Half(1, code),
             TypeDescription::Pointer(x) => Row::Word(2, x.cast_unsigned()),
@@ -108,12 +108,12 @@ impl Laid for TypeDescription {
     }
 }
 
-impl<F: Refuses> Laid for ResolvedHreftype<F> {
+impl<F: Refuses> LaidWithin for ResolvedHreftype<F> {
     type FileRefusal = F;
 
     ghost bytes = { λ x. reference (told_hreftype_as F.number x) };
 
-    fn row(self) -> Row<F> {
+    fn row_within(self) -> Row<F> {
         match self {
             ResolvedHreftype::Internal(index) => Row::Marked(1, Longs::One(index.0 as u64)),
             ResolvedHreftype::External(info, file) => Row::Import(info.place(), file),

@@ -9,4 +9,4 @@ use Rattle.rows.specs.Values.{constant}
 use Rattle.msft_typelib.proofs.descriptors.msft_const_value.Goals as goal
 
 pub returns : goal.returns
-returns c = laid_as _ c.lay.ensures (c.of.ensures ∙ library-read (λ a. map constant (told a)) (λ lib. map constant (const_at c.args.s.now lib (of_z w32 c.args.word))) c.args.s.now c.parse.result c.parse.ensures c.and_then.ensures (λ lib h. ap (map constant) (search of_calls)) (λ e. refl))
+returns c = laid_as _ c.lay.ensures (c.of_within.ensures ∙ library-read (λ a. map constant (told a)) (λ lib. map constant (const_at c.args.s.now lib (of_z w32 c.args.word))) c.args.s.now c.parse.result c.parse.ensures c.and_then.ensures (λ lib h. ap (map constant) (search of_calls)) (λ e. refl))

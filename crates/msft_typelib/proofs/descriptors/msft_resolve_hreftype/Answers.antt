@@ -10,4 +10,4 @@ use Rattle.typelib.specs.Told.{told_index}
 use Rattle.msft_typelib.proofs.descriptors.msft_resolve_hreftype.Goals as goal
 
 pub returns : goal.returns
-returns c = laid_as _ c.lay.ensures (c.of.ensures ∙ index-told size _ ∙ library-read (λ a. map size (told_index a)) (λ lib. map size (href_index lib (of_z w32 c.args.hreftype))) c.args.s.now c.parse.result c.parse.ensures c.and_then.ensures (λ lib h. ap (map size) (search of_calls)) (λ e. refl))
+returns c = laid_as _ c.lay.ensures (c.of_within.ensures ∙ index-told size _ ∙ library-read (λ a. map size (told_index a)) (λ lib. map size (href_index lib (of_z w32 c.args.hreftype))) c.args.s.now c.parse.result c.parse.ensures c.and_then.ensures (λ lib h. ap (map size) (search of_calls)) (λ e. refl))

@@ -9,4 +9,4 @@ use Rattle.typelib.specs.Descriptors.{type_desc_at}
 use Rattle.msft_typelib.proofs.descriptors.msft_type_desc.Goals as goal
 
 pub returns : goal.returns
-returns c = laid_as _ c.lay.ensures (c.of.ensures ∙ library-read (λ a. map pair (told a)) (λ lib. map pair (type_desc_at c.args.s.now lib (of_z w32 c.args.offset))) c.args.s.now c.parse.result c.parse.ensures c.and_then.ensures (λ lib h. ap (map pair) (search of_calls)) (λ e. refl))
+returns c = laid_as _ c.lay.ensures (c.of_within.ensures ∙ library-read (λ a. map pair (told a)) (λ lib. map pair (type_desc_at c.args.s.now lib (of_z w32 c.args.offset))) c.args.s.now c.parse.result c.parse.ensures c.and_then.ensures (λ lib h. ap (map pair) (search of_calls)) (λ e. refl))

@@ -10,4 +10,4 @@ use Rattle.typelib.specs.Tables.{lent}
 use Rattle.msft_typelib.proofs.descriptors.msft_type_description.Goals as goal
 
 pub returns : goal.returns
-returns c = laid_as _ c.lay.ensures (c.of.ensures ∙ library-read (λ a. map description (told a)) (λ lib. map description (lent c.args.s.now (type_description c.args.s.now lib (of_z w32 c.args.datatype)))) c.args.s.now c.parse.result c.parse.ensures c.and_then.ensures (λ lib h. ap (map description) (search of_calls)) (λ e. refl))
+returns c = laid_as _ c.lay.ensures (c.of_within.ensures ∙ library-read (λ a. map description (told a)) (λ lib. map description (lent c.args.s.now (type_description c.args.s.now lib (of_z w32 c.args.datatype)))) c.args.s.now c.parse.result c.parse.ensures c.and_then.ensures (λ lib h. ap (map description) (search of_calls)) (λ e. refl))

@@ -8,4 +8,4 @@ use Rattle.typelib.specs.Names.{lib_name}
 use Rattle.msft_typelib.proofs.tables.msft_lib_name.Goals as goal
 
 pub returns : goal.returns
-returns c = laid_as _ c.lay.ensures (c.of.ensures ∙ library-read (λ a. map place (told a)) (λ lib. map place (lib_name c.args.s.now lib)) c.args.s.now c.parse.result c.parse.ensures c.and_then.ensures (λ lib h. ap (map place) (search of_calls)) (λ e. refl))
+returns c = laid_as _ c.lay.ensures (c.of_within.ensures ∙ library-read (λ a. map place (told a)) (λ lib. map place (lib_name c.args.s.now lib)) c.args.s.now c.parse.result c.parse.ensures c.and_then.ensures (λ lib h. ap (map place) (search of_calls)) (λ e. refl))

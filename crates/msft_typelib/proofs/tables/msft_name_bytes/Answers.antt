@@ -9,4 +9,4 @@ use Rattle.typelib.specs.Names.{name_bytes}
 use Rattle.msft_typelib.proofs.tables.msft_name_bytes.Goals as goal
 
 pub returns : goal.returns
-returns c = laid_as _ c.lay.ensures (c.of.ensures ∙ library-read (λ a. map place (told a)) (λ lib. map place (name_bytes c.args.s.now lib (of_z w32 c.args.offset))) c.args.s.now c.parse.result c.parse.ensures c.and_then.ensures (λ lib h. ap (map place) (search of_calls)) (λ e. refl))
+returns c = laid_as _ c.lay.ensures (c.of_within.ensures ∙ library-read (λ a. map place (told a)) (λ lib. map place (name_bytes c.args.s.now lib (of_z w32 c.args.offset))) c.args.s.now c.parse.result c.parse.ensures c.and_then.ensures (λ lib h. ap (map place) (search of_calls)) (λ e. refl))

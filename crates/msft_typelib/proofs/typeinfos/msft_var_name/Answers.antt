@@ -9,4 +9,4 @@ use Rattle.typelib.specs.TypeInfos.{var_name}
 use Rattle.msft_typelib.proofs.typeinfos.msft_var_name.Goals as goal
 
 pub returns : goal.returns
-returns c = laid_as _ c.lay.ensures (c.of.ensures ∙ library-read (λ a. map place (told a)) (λ lib. map place (var_name c.args.s.now lib (typeinfo_at c.args.at c.args.len) c.args.index)) c.args.s.now c.parse.result c.parse.ensures c.and_then.ensures (λ lib h. ap (map place) (search of_calls)) (λ e. refl))
+returns c = laid_as _ c.lay.ensures (c.of_within.ensures ∙ library-read (λ a. map place (told a)) (λ lib. map place (var_name c.args.s.now lib (typeinfo_at c.args.at c.args.len) c.args.index)) c.args.s.now c.parse.result c.parse.ensures c.and_then.ensures (λ lib h. ap (map place) (search of_calls)) (λ e. refl))
