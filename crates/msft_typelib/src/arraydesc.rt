@@ -16,7 +16,7 @@ use replies::reply;
 pub extern "C" fn msft_arraydesc_element_type(s: &[u8], at: usize, len: usize) -> i64
     ensures { result ≡ reply (bits32 (signed32 (field array_desc "element type" s.now at len))) }
 {
-    reply::of(ArrayDesc { at, len }.element_type(s))
+    reply::of_told(ArrayDesc { at, len }.element_type(s))
 }
 
 // The number of dimensions.
@@ -24,14 +24,14 @@ pub extern "C" fn msft_arraydesc_element_type(s: &[u8], at: usize, len: usize) -
 pub extern "C" fn msft_arraydesc_num_dims(s: &[u8], at: usize, len: usize) -> i64
     ensures { result ≡ reply (field array_desc "dimensions" s.now at len) }
 {
-    reply::of(ArrayDesc { at, len }.num_dims(s))
+    reply::of_told(ArrayDesc { at, len }.num_dims(s))
 }
 
 #[unsafe(no_mangle)]
 pub extern "C" fn msft_arraydesc_flags(s: &[u8], at: usize, len: usize) -> i64
     ensures { result ≡ reply (field array_desc "flags" s.now at len) }
 {
-    reply::of(ArrayDesc { at, len }.flags(s))
+    reply::of_told(ArrayDesc { at, len }.flags(s))
 }
 
 // The bounds of dimension `index`, counted from 0.

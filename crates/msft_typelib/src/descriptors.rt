@@ -81,7 +81,7 @@ pub extern "C" fn msft_resolve_hreftype_full(s: &[u8], hreftype: i32, out: &mut 
 pub extern "C" fn msft_misplaced_offset(hreftype: i32) -> i64
     ensures { result ≡ reply (misplaced_offset (of_z w32 hreftype)) }
 {
-    reply::of(references::misplaced_offset(hreftype))
+    reply::of_told(references::misplaced_offset(hreftype))
 }
 
 // The constant that a record's word gives: inline where the word is negative, else at that offset

@@ -24,7 +24,7 @@ pub extern "C" fn msft_func_as_bytes(s: &[u8], at: usize, len: usize, out: &mut 
 pub extern "C" fn msft_func_info(s: &[u8], at: usize, len: usize) -> i64
     ensures { result ≡ reply (field func_record "Info" s.now at len) }
 {
-    reply::of(FuncRecord { at, len }.info(s))
+    reply::of_told(FuncRecord { at, len }.info(s))
 }
 
 #[unsafe(no_mangle)]
@@ -39,7 +39,7 @@ pub extern "C" fn msft_func_record_size(s: &[u8], at: usize, len: usize, out: &m
 pub extern "C" fn msft_func_datatype(s: &[u8], at: usize, len: usize) -> i64
     ensures { result ≡ reply (bits32 (signed32 (field func_record "DataType" s.now at len))) }
 {
-    reply::of(FuncRecord { at, len }.datatype(s))
+    reply::of_told(FuncRecord { at, len }.datatype(s))
 }
 
 // FUNCFLAG bits.
@@ -47,21 +47,21 @@ pub extern "C" fn msft_func_datatype(s: &[u8], at: usize, len: usize) -> i64
 pub extern "C" fn msft_func_flags(s: &[u8], at: usize, len: usize) -> i64
     ensures { result ≡ reply (field func_record "Flags" s.now at len) }
 {
-    reply::of(FuncRecord { at, len }.flags(s))
+    reply::of_told(FuncRecord { at, len }.flags(s))
 }
 
 #[unsafe(no_mangle)]
 pub extern "C" fn msft_func_vtable_offset(s: &[u8], at: usize, len: usize) -> i64
     ensures { result ≡ reply (bits16 (signed16 (field func_record "VtableOffset" s.now at len))) }
 {
-    reply::of(FuncRecord { at, len }.vtable_offset(s))
+    reply::of_told(FuncRecord { at, len }.vtable_offset(s))
 }
 
 #[unsafe(no_mangle)]
 pub extern "C" fn msft_func_funcdesc_size(s: &[u8], at: usize, len: usize) -> i64
     ensures { result ≡ reply (bits16 (signed16 (field func_record "funcdescsize" s.now at len))) }
 {
-    reply::of(FuncRecord { at, len }.funcdesc_size(s))
+    reply::of_told(FuncRecord { at, len }.funcdesc_size(s))
 }
 
 // Function kind (bits 0 to 2), invoke kind (3 to 6), custom data (7), calling convention (8 to 11),
@@ -70,7 +70,7 @@ pub extern "C" fn msft_func_funcdesc_size(s: &[u8], at: usize, len: usize) -> i6
 pub extern "C" fn msft_func_fkccic(s: &[u8], at: usize, len: usize) -> i64
     ensures { result ≡ reply (field func_record "FKCCIC" s.now at len) }
 {
-    reply::of(FuncRecord { at, len }.fkccic(s))
+    reply::of_told(FuncRecord { at, len }.fkccic(s))
 }
 
 // FUNCKIND: 0 virtual, 1 pure virtual, 2 non-virtual, 3 static, 4 dispatch.
@@ -78,7 +78,7 @@ pub extern "C" fn msft_func_fkccic(s: &[u8], at: usize, len: usize) -> i64
 pub extern "C" fn msft_func_func_kind(s: &[u8], at: usize, len: usize) -> i64
     ensures { result ≡ reply (map (bits_of 0 3) (field func_record "FKCCIC" s.now at len)) }
 {
-    reply::of(FuncRecord { at, len }.func_kind(s))
+    reply::of_told(FuncRecord { at, len }.func_kind(s))
 }
 
 // INVOKEKIND: 1 function, 2 property get, 4 property put, 8 property put by reference.
@@ -86,7 +86,7 @@ pub extern "C" fn msft_func_func_kind(s: &[u8], at: usize, len: usize) -> i64
 pub extern "C" fn msft_func_invoke_kind(s: &[u8], at: usize, len: usize) -> i64
     ensures { result ≡ reply (map (bits_of 3 4) (field func_record "FKCCIC" s.now at len)) }
 {
-    reply::of(FuncRecord { at, len }.invoke_kind(s))
+    reply::of_told(FuncRecord { at, len }.invoke_kind(s))
 }
 
 // CALLCONV: 0 fastcall, 1 cdecl, 2 pascal, 4 stdcall.
@@ -94,7 +94,7 @@ pub extern "C" fn msft_func_invoke_kind(s: &[u8], at: usize, len: usize) -> i64
 pub extern "C" fn msft_func_callconv(s: &[u8], at: usize, len: usize) -> i64
     ensures { result ≡ reply (map (bits_of 8 4) (field func_record "FKCCIC" s.now at len)) }
 {
-    reply::of(FuncRecord { at, len }.callconv(s))
+    reply::of_told(FuncRecord { at, len }.callconv(s))
 }
 
 // The number of parameters.
@@ -102,7 +102,7 @@ pub extern "C" fn msft_func_callconv(s: &[u8], at: usize, len: usize) -> i64
 pub extern "C" fn msft_func_nrargs(s: &[u8], at: usize, len: usize) -> i64
     ensures { result ≡ reply (bits16 (signed16 (field func_record "nrargs" s.now at len))) }
 {
-    reply::of(FuncRecord { at, len }.nrargs(s))
+    reply::of_told(FuncRecord { at, len }.nrargs(s))
 }
 
 // The number of optional parameters.
@@ -110,7 +110,7 @@ pub extern "C" fn msft_func_nrargs(s: &[u8], at: usize, len: usize) -> i64
 pub extern "C" fn msft_func_nroargs(s: &[u8], at: usize, len: usize) -> i64
     ensures { result ≡ reply (bits16 (signed16 (field func_record "nroargs" s.now at len))) }
 {
-    reply::of(FuncRecord { at, len }.nroargs(s))
+    reply::of_told(FuncRecord { at, len }.nroargs(s))
 }
 
 // Whether an array of default values stands before the parameters.
@@ -118,7 +118,7 @@ pub extern "C" fn msft_func_nroargs(s: &[u8], at: usize, len: usize) -> i64
 pub extern "C" fn msft_func_has_default_values(s: &[u8], at: usize, len: usize) -> i64
     ensures { result ≡ reply (truth (map (flag_set has_default_values) (field func_record "FKCCIC" s.now at len))) }
 {
-    reply::of(FuncRecord { at, len }.has_default_values(s))
+    reply::of_told(FuncRecord { at, len }.has_default_values(s))
 }
 
 // Whether the function or its parameters have custom data.
@@ -126,7 +126,7 @@ pub extern "C" fn msft_func_has_default_values(s: &[u8], at: usize, len: usize) 
 pub extern "C" fn msft_func_has_cust_data(s: &[u8], at: usize, len: usize) -> i64
     ensures { result ≡ reply (truth (map (flag_set has_cust_data) (field func_record "FKCCIC" s.now at len))) }
 {
-    reply::of(FuncRecord { at, len }.has_cust_data(s))
+    reply::of_told(FuncRecord { at, len }.has_cust_data(s))
 }
 
 // The OffsValue of parameter `index`'s default. The array of one word a parameter lies right before
@@ -140,7 +140,7 @@ pub extern "C" fn msft_func_default_value_offset(
 ) -> i64
     ensures { result ≡ reply (bits32 (default_value_offset index s.now at len)) }
 {
-    reply::of(FuncRecord { at, len }.default_value_offset(s, index))
+    reply::of_told(FuncRecord { at, len }.default_value_offset(s, index))
 }
 
 // Whether the record holds custom data offsets of its parameters.
@@ -148,14 +148,14 @@ pub extern "C" fn msft_func_default_value_offset(
 pub extern "C" fn msft_func_has_arg_cust_data(s: &[u8], at: usize, len: usize) -> i64
     ensures { result ≡ reply (truth (has_arg_cust_data s.now at len)) }
 {
-    reply::of(FuncRecord { at, len }.has_arg_cust_data(s))
+    reply::of_told(FuncRecord { at, len }.has_arg_cust_data(s))
 }
 
 #[unsafe(no_mangle)]
 pub extern "C" fn msft_func_help_context(s: &[u8], at: usize, len: usize) -> i64
     ensures { result ≡ reply (bits32 (func_attribute "HelpContext" s.now at len)) }
 {
-    reply::of(FuncRecord { at, len }.help_context(s))
+    reply::of_told(FuncRecord { at, len }.help_context(s))
 }
 
 // The offset of its help string in the string table.
@@ -163,7 +163,7 @@ pub extern "C" fn msft_func_help_context(s: &[u8], at: usize, len: usize) -> i64
 pub extern "C" fn msft_func_help_string_offset(s: &[u8], at: usize, len: usize) -> i64
     ensures { result ≡ reply (bits32 (func_attribute "oHelpString" s.now at len)) }
 {
-    reply::of(FuncRecord { at, len }.help_string_offset(s))
+    reply::of_told(FuncRecord { at, len }.help_string_offset(s))
 }
 
 // Of a module's function the entry point in its DLL: an offset in the string table, or an ordinal.
@@ -171,28 +171,28 @@ pub extern "C" fn msft_func_help_string_offset(s: &[u8], at: usize, len: usize) 
 pub extern "C" fn msft_func_oentry(s: &[u8], at: usize, len: usize) -> i64
     ensures { result ≡ reply (bits32 (func_attribute "oEntry" s.now at len)) }
 {
-    reply::of(FuncRecord { at, len }.oentry(s))
+    reply::of_told(FuncRecord { at, len }.oentry(s))
 }
 
 #[unsafe(no_mangle)]
 pub extern "C" fn msft_func_res9(s: &[u8], at: usize, len: usize) -> i64
     ensures { result ≡ reply (bits32 (func_attribute "res9" s.now at len)) }
 {
-    reply::of(FuncRecord { at, len }.res9(s))
+    reply::of_told(FuncRecord { at, len }.res9(s))
 }
 
 #[unsafe(no_mangle)]
 pub extern "C" fn msft_func_res_a(s: &[u8], at: usize, len: usize) -> i64
     ensures { result ≡ reply (bits32 (func_attribute "resA" s.now at len)) }
 {
-    reply::of(FuncRecord { at, len }.res_a(s))
+    reply::of_told(FuncRecord { at, len }.res_a(s))
 }
 
 #[unsafe(no_mangle)]
 pub extern "C" fn msft_func_helpstringcontext(s: &[u8], at: usize, len: usize) -> i64
     ensures { result ≡ reply (bits32 (func_attribute "HelpStringContext" s.now at len)) }
 {
-    reply::of(FuncRecord { at, len }.helpstringcontext(s))
+    reply::of_told(FuncRecord { at, len }.helpstringcontext(s))
 }
 
 // The offset of the function's custom data in their directory.
@@ -200,7 +200,7 @@ pub extern "C" fn msft_func_helpstringcontext(s: &[u8], at: usize, len: usize) -
 pub extern "C" fn msft_func_cust_data_offset(s: &[u8], at: usize, len: usize) -> i64
     ensures { result ≡ reply (bits32 (cust_data_offset s.now at len)) }
 {
-    reply::of(FuncRecord { at, len }.cust_data_offset(s))
+    reply::of_told(FuncRecord { at, len }.cust_data_offset(s))
 }
 
 // The offset of the custom data of parameter `arg_index`.
@@ -213,5 +213,5 @@ pub extern "C" fn msft_func_arg_cust_data_offset(
 ) -> i64
     ensures { result ≡ reply (bits32 (arg_cust_data_offset arg_index s.now at len)) }
 {
-    reply::of(FuncRecord { at, len }.arg_cust_data_offset(s, arg_index))
+    reply::of_told(FuncRecord { at, len }.arg_cust_data_offset(s, arg_index))
 }

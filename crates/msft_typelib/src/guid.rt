@@ -22,21 +22,21 @@ pub extern "C" fn msft_guid_as_bytes(s: &[u8], at: usize, len: usize, out: &mut 
 pub extern "C" fn msft_guid_data1(s: &[u8], at: usize, len: usize) -> i64
     ensures { result ≡ reply (field guid "Data1" s.now at len) }
 {
-    reply::of(Guid { at, len }.data1(s))
+    reply::of_told(Guid { at, len }.data1(s))
 }
 
 #[unsafe(no_mangle)]
 pub extern "C" fn msft_guid_data2(s: &[u8], at: usize, len: usize) -> i64
     ensures { result ≡ reply (field guid "Data2" s.now at len) }
 {
-    reply::of(Guid { at, len }.data2(s))
+    reply::of_told(Guid { at, len }.data2(s))
 }
 
 #[unsafe(no_mangle)]
 pub extern "C" fn msft_guid_data3(s: &[u8], at: usize, len: usize) -> i64
     ensures { result ≡ reply (field guid "Data3" s.now at len) }
 {
-    reply::of(Guid { at, len }.data3(s))
+    reply::of_told(Guid { at, len }.data3(s))
 }
 
 // The place of the last eight bytes.

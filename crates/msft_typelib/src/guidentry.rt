@@ -22,7 +22,7 @@ pub extern "C" fn msft_guidentry_guid(s: &[u8], at: usize, len: usize, out: &mut
 pub extern "C" fn msft_guidentry_hreftype(s: &[u8], at: usize, len: usize) -> i64
     ensures { result ≡ reply (bits32 (signed32 (field guid_entry "hreftype" s.now at len))) }
 {
-    reply::of(GuidEntry { at, len }.hreftype(s))
+    reply::of_told(GuidEntry { at, len }.hreftype(s))
 }
 
 // The offset of the next entry of the hash chain; -1 at its end.
@@ -30,5 +30,5 @@ pub extern "C" fn msft_guidentry_hreftype(s: &[u8], at: usize, len: usize) -> i6
 pub extern "C" fn msft_guidentry_next_hash(s: &[u8], at: usize, len: usize) -> i64
     ensures { result ≡ reply (bits32 (signed32 (field guid_entry "next_hash" s.now at len))) }
 {
-    reply::of(GuidEntry { at, len }.next_hash(s))
+    reply::of_told(GuidEntry { at, len }.next_hash(s))
 }

@@ -16,7 +16,7 @@ use replies::reply;
 pub extern "C" fn msft_impfile_guid_offset(s: &[u8], at: usize, len: usize) -> i64
     ensures { result ≡ reply (bits32 (signed32 (field imp_file "GUID offset" s.now at len))) }
 {
-    reply::of(ImpFile { at, len }.guid_offset(s))
+    reply::of_told(ImpFile { at, len }.guid_offset(s))
 }
 
 // Its locale.
@@ -24,21 +24,21 @@ pub extern "C" fn msft_impfile_guid_offset(s: &[u8], at: usize, len: usize) -> i
 pub extern "C" fn msft_impfile_lcid(s: &[u8], at: usize, len: usize) -> i64
     ensures { result ≡ reply (bits32 (signed32 (field imp_file "LCID" s.now at len))) }
 {
-    reply::of(ImpFile { at, len }.lcid(s))
+    reply::of_told(ImpFile { at, len }.lcid(s))
 }
 
 #[unsafe(no_mangle)]
 pub extern "C" fn msft_impfile_major_version(s: &[u8], at: usize, len: usize) -> i64
     ensures { result ≡ reply (field imp_file "major" s.now at len) }
 {
-    reply::of(ImpFile { at, len }.major_version(s))
+    reply::of_told(ImpFile { at, len }.major_version(s))
 }
 
 #[unsafe(no_mangle)]
 pub extern "C" fn msft_impfile_minor_version(s: &[u8], at: usize, len: usize) -> i64
     ensures { result ≡ reply (field imp_file "minor" s.now at len) }
 {
-    reply::of(ImpFile { at, len }.minor_version(s))
+    reply::of_told(ImpFile { at, len }.minor_version(s))
 }
 
 // The length of the file name in bits 2 to 15; bits 0 and 1 are flags.
@@ -46,7 +46,7 @@ pub extern "C" fn msft_impfile_minor_version(s: &[u8], at: usize, len: usize) ->
 pub extern "C" fn msft_impfile_size_field(s: &[u8], at: usize, len: usize) -> i64
     ensures { result ≡ reply (field imp_file "size" s.now at len) }
 {
-    reply::of(ImpFile { at, len }.size_field(s))
+    reply::of_told(ImpFile { at, len }.size_field(s))
 }
 
 // The file name, where it is UTF-8.

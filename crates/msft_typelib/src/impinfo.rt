@@ -12,7 +12,7 @@ use replies::reply;
 pub extern "C" fn msft_impinfo_flags(s: &[u8], at: usize, len: usize) -> i64
     ensures { result ≡ reply (field imp_info "flags" s.now at len) }
 {
-    reply::of(ImpInfo { at, len }.flags(s))
+    reply::of_told(ImpInfo { at, len }.flags(s))
 }
 
 // The offset of the import file in its table.
@@ -20,7 +20,7 @@ pub extern "C" fn msft_impinfo_flags(s: &[u8], at: usize, len: usize) -> i64
 pub extern "C" fn msft_impinfo_imp_file_offset(s: &[u8], at: usize, len: usize) -> i64
     ensures { result ≡ reply (bits32 (signed32 (field imp_info "oImpFile" s.now at len))) }
 {
-    reply::of(ImpInfo { at, len }.imp_file_offset(s))
+    reply::of_told(ImpInfo { at, len }.imp_file_offset(s))
 }
 
 // The offset of the GUID in its table, or the index of the type in the imported library.
@@ -28,5 +28,5 @@ pub extern "C" fn msft_impinfo_imp_file_offset(s: &[u8], at: usize, len: usize) 
 pub extern "C" fn msft_impinfo_guid_offset(s: &[u8], at: usize, len: usize) -> i64
     ensures { result ≡ reply (bits32 (signed32 (field imp_info "oGuid" s.now at len))) }
 {
-    reply::of(ImpInfo { at, len }.guid_offset(s))
+    reply::of_told(ImpInfo { at, len }.guid_offset(s))
 }

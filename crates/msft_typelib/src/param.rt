@@ -15,7 +15,7 @@ use replies::reply;
 pub extern "C" fn msft_param_datatype(s: &[u8], at: usize, len: usize) -> i64
     ensures { result ≡ reply (bits32 (signed32 (field parameter_info "DataType" s.now at len))) }
 {
-    reply::of(ParameterInfo { at, len }.datatype(s))
+    reply::of_told(ParameterInfo { at, len }.datatype(s))
 }
 
 // The offset of its name in the name table.
@@ -23,7 +23,7 @@ pub extern "C" fn msft_param_datatype(s: &[u8], at: usize, len: usize) -> i64
 pub extern "C" fn msft_param_name_offset(s: &[u8], at: usize, len: usize) -> i64
     ensures { result ≡ reply (bits32 (signed32 (field parameter_info "oName" s.now at len))) }
 {
-    reply::of(ParameterInfo { at, len }.name_offset(s))
+    reply::of_told(ParameterInfo { at, len }.name_offset(s))
 }
 
 // PARAMFLAG bits.
@@ -31,33 +31,33 @@ pub extern "C" fn msft_param_name_offset(s: &[u8], at: usize, len: usize) -> i64
 pub extern "C" fn msft_param_flags(s: &[u8], at: usize, len: usize) -> i64
     ensures { result ≡ reply (field parameter_info "Flags" s.now at len) }
 {
-    reply::of(ParameterInfo { at, len }.flags(s))
+    reply::of_told(ParameterInfo { at, len }.flags(s))
 }
 
 #[unsafe(no_mangle)]
 pub extern "C" fn msft_param_is_in(s: &[u8], at: usize, len: usize) -> i64
     ensures { result ≡ reply (truth (map (flag_set PARAMFLAG_FIN) (field parameter_info "Flags" s.now at len))) }
 {
-    reply::of(ParameterInfo { at, len }.is_in(s))
+    reply::of_told(ParameterInfo { at, len }.is_in(s))
 }
 
 #[unsafe(no_mangle)]
 pub extern "C" fn msft_param_is_out(s: &[u8], at: usize, len: usize) -> i64
     ensures { result ≡ reply (truth (map (flag_set PARAMFLAG_FOUT) (field parameter_info "Flags" s.now at len))) }
 {
-    reply::of(ParameterInfo { at, len }.is_out(s))
+    reply::of_told(ParameterInfo { at, len }.is_out(s))
 }
 
 #[unsafe(no_mangle)]
 pub extern "C" fn msft_param_is_retval(s: &[u8], at: usize, len: usize) -> i64
     ensures { result ≡ reply (truth (map (flag_set PARAMFLAG_FRETVAL) (field parameter_info "Flags" s.now at len))) }
 {
-    reply::of(ParameterInfo { at, len }.is_retval(s))
+    reply::of_told(ParameterInfo { at, len }.is_retval(s))
 }
 
 #[unsafe(no_mangle)]
 pub extern "C" fn msft_param_is_optional(s: &[u8], at: usize, len: usize) -> i64
     ensures { result ≡ reply (truth (map (flag_set PARAMFLAG_FOPT) (field parameter_info "Flags" s.now at len))) }
 {
-    reply::of(ParameterInfo { at, len }.is_optional(s))
+    reply::of_told(ParameterInfo { at, len }.is_optional(s))
 }

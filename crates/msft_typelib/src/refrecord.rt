@@ -14,7 +14,7 @@ use replies::reply;
 pub extern "C" fn msft_ref_reftype(s: &[u8], at: usize, len: usize) -> i64
     ensures { result ≡ reply (bits32 (signed32 (field ref_record "reftype" s.now at len))) }
 {
-    reply::of(RefRecord { at, len }.reftype(s))
+    reply::of_told(RefRecord { at, len }.reftype(s))
 }
 
 // IMPLTYPEFLAG bits.
@@ -22,7 +22,7 @@ pub extern "C" fn msft_ref_reftype(s: &[u8], at: usize, len: usize) -> i64
 pub extern "C" fn msft_ref_flags(s: &[u8], at: usize, len: usize) -> i64
     ensures { result ≡ reply (field ref_record "flags" s.now at len) }
 {
-    reply::of(RefRecord { at, len }.flags(s))
+    reply::of_told(RefRecord { at, len }.flags(s))
 }
 
 // The offset of the next record of the chain; -1 at its end.
@@ -30,26 +30,26 @@ pub extern "C" fn msft_ref_flags(s: &[u8], at: usize, len: usize) -> i64
 pub extern "C" fn msft_ref_onext(s: &[u8], at: usize, len: usize) -> i64
     ensures { result ≡ reply (bits32 (signed32 (field ref_record "onext" s.now at len))) }
 {
-    reply::of(RefRecord { at, len }.onext(s))
+    reply::of_told(RefRecord { at, len }.onext(s))
 }
 
 #[unsafe(no_mangle)]
 pub extern "C" fn msft_ref_is_default(s: &[u8], at: usize, len: usize) -> i64
     ensures { result ≡ reply (truth (map (flag_set IMPLTYPEFLAG_FDEFAULT) (field ref_record "flags" s.now at len))) }
 {
-    reply::of(RefRecord { at, len }.is_default(s))
+    reply::of_told(RefRecord { at, len }.is_default(s))
 }
 
 #[unsafe(no_mangle)]
 pub extern "C" fn msft_ref_is_source(s: &[u8], at: usize, len: usize) -> i64
     ensures { result ≡ reply (truth (map (flag_set IMPLTYPEFLAG_FSOURCE) (field ref_record "flags" s.now at len))) }
 {
-    reply::of(RefRecord { at, len }.is_source(s))
+    reply::of_told(RefRecord { at, len }.is_source(s))
 }
 
 #[unsafe(no_mangle)]
 pub extern "C" fn msft_ref_is_restricted(s: &[u8], at: usize, len: usize) -> i64
     ensures { result ≡ reply (truth (map (flag_set IMPLTYPEFLAG_FRESTRICTED) (field ref_record "flags" s.now at len))) }
 {
-    reply::of(RefRecord { at, len }.is_restricted(s))
+    reply::of_told(RefRecord { at, len }.is_restricted(s))
 }

@@ -23,7 +23,7 @@ pub extern "C" fn msft_typeinfo_as_bytes(s: &[u8], at: usize, len: usize, out: &
 pub extern "C" fn msft_typeinfo_typekind(s: &[u8], at: usize, len: usize) -> i64
     ensures { result ≡ reply (kind_in s.now at len) }
 {
-    reply::of(TypeInfoEntry { at, len }.typekind(s))
+    reply::of_told(TypeInfoEntry { at, len }.typekind(s))
 }
 
 // The whole field: the kind in its low four bits, the alignment in bits 11 to 15.
@@ -31,7 +31,7 @@ pub extern "C" fn msft_typeinfo_typekind(s: &[u8], at: usize, len: usize) -> i64
 pub extern "C" fn msft_typeinfo_typekind_raw(s: &[u8], at: usize, len: usize) -> i64
     ensures { result ≡ reply (field type_info_base "typekind" s.now at len) }
 {
-    reply::of(TypeInfoEntry { at, len }.typekind_raw(s))
+    reply::of_told(TypeInfoEntry { at, len }.typekind_raw(s))
 }
 
 // The file offset of the block of function and variable records; negative where there is none.
@@ -39,14 +39,14 @@ pub extern "C" fn msft_typeinfo_typekind_raw(s: &[u8], at: usize, len: usize) ->
 pub extern "C" fn msft_typeinfo_memoffset(s: &[u8], at: usize, len: usize) -> i64
     ensures { result ≡ reply (bits32 (signed32 (field type_info_base "memoffset" s.now at len))) }
 {
-    reply::of(TypeInfoEntry { at, len }.memoffset(s))
+    reply::of_told(TypeInfoEntry { at, len }.memoffset(s))
 }
 
 #[unsafe(no_mangle)]
 pub extern "C" fn msft_typeinfo_res2(s: &[u8], at: usize, len: usize) -> i64
     ensures { result ≡ reply (bits32 (signed32 (field type_info_base "res2" s.now at len))) }
 {
-    reply::of(TypeInfoEntry { at, len }.res2(s))
+    reply::of_told(TypeInfoEntry { at, len }.res2(s))
 }
 
 // The declared counts: functions in the low half, variables in the high half.
@@ -54,21 +54,21 @@ pub extern "C" fn msft_typeinfo_res2(s: &[u8], at: usize, len: usize) -> i64
 pub extern "C" fn msft_typeinfo_celement(s: &[u8], at: usize, len: usize) -> i64
     ensures { result ≡ reply (field type_info_base "cElement" s.now at len) }
 {
-    reply::of(TypeInfoEntry { at, len }.celement(s))
+    reply::of_told(TypeInfoEntry { at, len }.celement(s))
 }
 
 #[unsafe(no_mangle)]
 pub extern "C" fn msft_typeinfo_func_count(s: &[u8], at: usize, len: usize) -> i64
     ensures { result ≡ reply (map (bits_of 0 16) (field type_info_base "cElement" s.now at len)) }
 {
-    reply::of(TypeInfoEntry { at, len }.func_count(s))
+    reply::of_told(TypeInfoEntry { at, len }.func_count(s))
 }
 
 #[unsafe(no_mangle)]
 pub extern "C" fn msft_typeinfo_var_count(s: &[u8], at: usize, len: usize) -> i64
     ensures { result ≡ reply (map (bits_of 16 16) (field type_info_base "cElement" s.now at len)) }
 {
-    reply::of(TypeInfoEntry { at, len }.var_count(s))
+    reply::of_told(TypeInfoEntry { at, len }.var_count(s))
 }
 
 // The offset of the type's GUID in its table; -1 where it has none.
@@ -76,7 +76,7 @@ pub extern "C" fn msft_typeinfo_var_count(s: &[u8], at: usize, len: usize) -> i6
 pub extern "C" fn msft_typeinfo_guid_offset(s: &[u8], at: usize, len: usize) -> i64
     ensures { result ≡ reply (bits32 (signed32 (field type_info_base "posguid" s.now at len))) }
 {
-    reply::of(TypeInfoEntry { at, len }.guid_offset(s))
+    reply::of_told(TypeInfoEntry { at, len }.guid_offset(s))
 }
 
 // TYPEFLAG bits.
@@ -84,7 +84,7 @@ pub extern "C" fn msft_typeinfo_guid_offset(s: &[u8], at: usize, len: usize) -> 
 pub extern "C" fn msft_typeinfo_flags(s: &[u8], at: usize, len: usize) -> i64
     ensures { result ≡ reply (field type_info_base "flags" s.now at len) }
 {
-    reply::of(TypeInfoEntry { at, len }.flags(s))
+    reply::of_told(TypeInfoEntry { at, len }.flags(s))
 }
 
 // The offset of its name in the name table.
@@ -92,14 +92,14 @@ pub extern "C" fn msft_typeinfo_flags(s: &[u8], at: usize, len: usize) -> i64
 pub extern "C" fn msft_typeinfo_name_offset(s: &[u8], at: usize, len: usize) -> i64
     ensures { result ≡ reply (bits32 (signed32 (field type_info_base "NameOffset" s.now at len))) }
 {
-    reply::of(TypeInfoEntry { at, len }.name_offset(s))
+    reply::of_told(TypeInfoEntry { at, len }.name_offset(s))
 }
 
 #[unsafe(no_mangle)]
 pub extern "C" fn msft_typeinfo_version(s: &[u8], at: usize, len: usize) -> i64
     ensures { result ≡ reply (field type_info_base "version" s.now at len) }
 {
-    reply::of(TypeInfoEntry { at, len }.version(s))
+    reply::of_told(TypeInfoEntry { at, len }.version(s))
 }
 
 // The offset of its doc string in the string table; -1 where it has none.
@@ -107,7 +107,7 @@ pub extern "C" fn msft_typeinfo_version(s: &[u8], at: usize, len: usize) -> i64
 pub extern "C" fn msft_typeinfo_docstring_offset(s: &[u8], at: usize, len: usize) -> i64
     ensures { result ≡ reply (bits32 (signed32 (field type_info_base "docstringoffs" s.now at len))) }
 {
-    reply::of(TypeInfoEntry { at, len }.docstring_offset(s))
+    reply::of_told(TypeInfoEntry { at, len }.docstring_offset(s))
 }
 
 // How many interfaces it implements.
@@ -115,7 +115,7 @@ pub extern "C" fn msft_typeinfo_docstring_offset(s: &[u8], at: usize, len: usize
 pub extern "C" fn msft_typeinfo_cimpltypes(s: &[u8], at: usize, len: usize) -> i64
     ensures { result ≡ reply (bits16 (signed16 (field type_info_base "cImplTypes" s.now at len))) }
 {
-    reply::of(TypeInfoEntry { at, len }.cimpltypes(s))
+    reply::of_told(TypeInfoEntry { at, len }.cimpltypes(s))
 }
 
 // The size of its virtual table in bytes.
@@ -123,7 +123,7 @@ pub extern "C" fn msft_typeinfo_cimpltypes(s: &[u8], at: usize, len: usize) -> i
 pub extern "C" fn msft_typeinfo_cb_size_vft(s: &[u8], at: usize, len: usize) -> i64
     ensures { result ≡ reply (bits16 (signed16 (field type_info_base "cbSizeVft" s.now at len))) }
 {
-    reply::of(TypeInfoEntry { at, len }.cb_size_vft(s))
+    reply::of_told(TypeInfoEntry { at, len }.cb_size_vft(s))
 }
 
 // The size of an instance in bytes.
@@ -131,7 +131,7 @@ pub extern "C" fn msft_typeinfo_cb_size_vft(s: &[u8], at: usize, len: usize) -> 
 pub extern "C" fn msft_typeinfo_size(s: &[u8], at: usize, len: usize) -> i64
     ensures { result ≡ reply (bits32 (signed32 (field type_info_base "size" s.now at len))) }
 {
-    reply::of(TypeInfoEntry { at, len }.size(s))
+    reply::of_told(TypeInfoEntry { at, len }.size(s))
 }
 
 // Of a coclass the offset of its first reference, of an alias the type field it stands for, of an
@@ -140,28 +140,28 @@ pub extern "C" fn msft_typeinfo_size(s: &[u8], at: usize, len: usize) -> i64
 pub extern "C" fn msft_typeinfo_datatype1(s: &[u8], at: usize, len: usize) -> i64
     ensures { result ≡ reply (bits32 (signed32 (field type_info_base "datatype1" s.now at len))) }
 {
-    reply::of(TypeInfoEntry { at, len }.datatype1(s))
+    reply::of_told(TypeInfoEntry { at, len }.datatype1(s))
 }
 
 #[unsafe(no_mangle)]
 pub extern "C" fn msft_typeinfo_datatype2(s: &[u8], at: usize, len: usize) -> i64
     ensures { result ≡ reply (bits32 (signed32 (field type_info_base "datatype2" s.now at len))) }
 {
-    reply::of(TypeInfoEntry { at, len }.datatype2(s))
+    reply::of_told(TypeInfoEntry { at, len }.datatype2(s))
 }
 
 #[unsafe(no_mangle)]
 pub extern "C" fn msft_typeinfo_helpstringcontext(s: &[u8], at: usize, len: usize) -> i64
     ensures { result ≡ reply (bits32 (signed32 (field type_info_base "helpstringcontext" s.now at len))) }
 {
-    reply::of(TypeInfoEntry { at, len }.helpstringcontext(s))
+    reply::of_told(TypeInfoEntry { at, len }.helpstringcontext(s))
 }
 
 #[unsafe(no_mangle)]
 pub extern "C" fn msft_typeinfo_helpcontext(s: &[u8], at: usize, len: usize) -> i64
     ensures { result ≡ reply (bits32 (signed32 (field type_info_base "helpcontext" s.now at len))) }
 {
-    reply::of(TypeInfoEntry { at, len }.helpcontext(s))
+    reply::of_told(TypeInfoEntry { at, len }.helpcontext(s))
 }
 
 // The offset of its custom data in their directory; -1 where it has none.
@@ -169,26 +169,26 @@ pub extern "C" fn msft_typeinfo_helpcontext(s: &[u8], at: usize, len: usize) -> 
 pub extern "C" fn msft_typeinfo_cust_data_offset(s: &[u8], at: usize, len: usize) -> i64
     ensures { result ≡ reply (bits32 (signed32 (field type_info_base "oCustData" s.now at len))) }
 {
-    reply::of(TypeInfoEntry { at, len }.cust_data_offset(s))
+    reply::of_told(TypeInfoEntry { at, len }.cust_data_offset(s))
 }
 
 #[unsafe(no_mangle)]
 pub extern "C" fn msft_typeinfo_res3(s: &[u8], at: usize, len: usize) -> i64
     ensures { result ≡ reply (bits32 (signed32 (field type_info_base "res3" s.now at len))) }
 {
-    reply::of(TypeInfoEntry { at, len }.res3(s))
+    reply::of_told(TypeInfoEntry { at, len }.res3(s))
 }
 
 #[unsafe(no_mangle)]
 pub extern "C" fn msft_typeinfo_res18(s: &[u8], at: usize, len: usize) -> i64
     ensures { result ≡ reply (bits32 (signed32 (field type_info_base "res18" s.now at len))) }
 {
-    reply::of(TypeInfoEntry { at, len }.res18(s))
+    reply::of_told(TypeInfoEntry { at, len }.res18(s))
 }
 
 #[unsafe(no_mangle)]
 pub extern "C" fn msft_typeinfo_res19(s: &[u8], at: usize, len: usize) -> i64
     ensures { result ≡ reply (bits32 (signed32 (field type_info_base "res19" s.now at len))) }
 {
-    reply::of(TypeInfoEntry { at, len }.res19(s))
+    reply::of_told(TypeInfoEntry { at, len }.res19(s))
 }

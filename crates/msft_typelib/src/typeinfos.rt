@@ -14,7 +14,7 @@ use typelib::{TypeInfoIndex, TypeLib};
 pub extern "C" fn msft_typeinfo_offset(s: &[u8], index: usize) -> i64
     ensures { result ≡ reply (typeinfo_offset_bits s.now index) }
 {
-    reply::of(TypeLib::parse(s).and_then(|lib| lib.typeinfo_offset(s, TypeInfoIndex(index))))
+    reply::of_told(TypeLib::parse(s).and_then(|lib| lib.typeinfo_offset(s, TypeInfoIndex(index))))
 }
 
 #[unsafe(no_mangle)]
@@ -32,7 +32,7 @@ pub extern "C" fn msft_typeinfo(s: &[u8], index: usize, out: &mut [u8]) -> i64
 pub extern "C" fn msft_func_memid(s: &[u8], at: usize, len: usize, index: usize) -> i64
     ensures { result ≡ reply (bits32 (signed32 (func_memid s.now (typeinfo_at at len) index))) }
 {
-    reply::of(typelib::typeinfos::func_memid(s, TypeInfoEntry { at, len }, index))
+    reply::of_told(typelib::typeinfos::func_memid(s, TypeInfoEntry { at, len }, index))
 }
 
 // The member identifier of variable `index`.
@@ -40,7 +40,7 @@ pub extern "C" fn msft_func_memid(s: &[u8], at: usize, len: usize, index: usize)
 pub extern "C" fn msft_var_memid(s: &[u8], at: usize, len: usize, index: usize) -> i64
     ensures { result ≡ reply (bits32 (signed32 (var_memid s.now (typeinfo_at at len) index))) }
 {
-    reply::of(typelib::typeinfos::var_memid(s, TypeInfoEntry { at, len }, index))
+    reply::of_told(typelib::typeinfos::var_memid(s, TypeInfoEntry { at, len }, index))
 }
 
 // The name offset of function `index`; -1 where it has no name of its own.
@@ -48,7 +48,7 @@ pub extern "C" fn msft_var_memid(s: &[u8], at: usize, len: usize, index: usize) 
 pub extern "C" fn msft_func_name_offset(s: &[u8], at: usize, len: usize, index: usize) -> i64
     ensures { result ≡ reply (bits32 (signed32 (func_name_offset s.now (typeinfo_at at len) index))) }
 {
-    reply::of(typelib::typeinfos::func_name_offset(s, TypeInfoEntry { at, len }, index))
+    reply::of_told(typelib::typeinfos::func_name_offset(s, TypeInfoEntry { at, len }, index))
 }
 
 // The name offset of variable `index`.
@@ -56,7 +56,7 @@ pub extern "C" fn msft_func_name_offset(s: &[u8], at: usize, len: usize, index: 
 pub extern "C" fn msft_var_name_offset(s: &[u8], at: usize, len: usize, index: usize) -> i64
     ensures { result ≡ reply (bits32 (signed32 (var_name_offset s.now (typeinfo_at at len) index))) }
 {
-    reply::of(typelib::typeinfos::var_name_offset(s, TypeInfoEntry { at, len }, index))
+    reply::of_told(typelib::typeinfos::var_name_offset(s, TypeInfoEntry { at, len }, index))
 }
 
 // The name of function `index`, where it is UTF-8.

@@ -32,7 +32,7 @@ pub extern "C" fn msft_var_as_bytes(s: &[u8], at: usize, len: usize, out: &mut [
 pub extern "C" fn msft_var_info(s: &[u8], at: usize, len: usize) -> i64
     ensures { result ≡ reply (field var_record "Info" s.now at len) }
 {
-    reply::of(VarRecord { at, len }.info(s))
+    reply::of_told(VarRecord { at, len }.info(s))
 }
 
 #[unsafe(no_mangle)]
@@ -47,7 +47,7 @@ pub extern "C" fn msft_var_record_size(s: &[u8], at: usize, len: usize, out: &mu
 pub extern "C" fn msft_var_datatype(s: &[u8], at: usize, len: usize) -> i64
     ensures { result ≡ reply (bits32 (signed32 (field var_record "DataType" s.now at len))) }
 {
-    reply::of(VarRecord { at, len }.datatype(s))
+    reply::of_told(VarRecord { at, len }.datatype(s))
 }
 
 // VARFLAG bits.
@@ -55,7 +55,7 @@ pub extern "C" fn msft_var_datatype(s: &[u8], at: usize, len: usize) -> i64
 pub extern "C" fn msft_var_flags(s: &[u8], at: usize, len: usize) -> i64
     ensures { result ≡ reply (field var_record "Flags" s.now at len) }
 {
-    reply::of(VarRecord { at, len }.flags(s))
+    reply::of_told(VarRecord { at, len }.flags(s))
 }
 
 // VARKIND: 0 per instance, 1 static, 2 constant, 3 dispatch.
@@ -63,14 +63,14 @@ pub extern "C" fn msft_var_flags(s: &[u8], at: usize, len: usize) -> i64
 pub extern "C" fn msft_var_varkind(s: &[u8], at: usize, len: usize) -> i64
     ensures { result ≡ reply (bits16 (signed16 (field var_record "VarKind" s.now at len))) }
 {
-    reply::of(VarRecord { at, len }.varkind(s))
+    reply::of_told(VarRecord { at, len }.varkind(s))
 }
 
 #[unsafe(no_mangle)]
 pub extern "C" fn msft_var_vardesc_size(s: &[u8], at: usize, len: usize) -> i64
     ensures { result ≡ reply (bits16 (signed16 (field var_record "vardescsize" s.now at len))) }
 {
-    reply::of(VarRecord { at, len }.vardesc_size(s))
+    reply::of_told(VarRecord { at, len }.vardesc_size(s))
 }
 
 // Of a constant its value or the value's place, of any other variable its offset in the instance.
@@ -78,14 +78,14 @@ pub extern "C" fn msft_var_vardesc_size(s: &[u8], at: usize, len: usize) -> i64
 pub extern "C" fn msft_var_offs_value(s: &[u8], at: usize, len: usize) -> i64
     ensures { result ≡ reply (bits32 (signed32 (field var_record "OffsValue" s.now at len))) }
 {
-    reply::of(VarRecord { at, len }.offs_value(s))
+    reply::of_told(VarRecord { at, len }.offs_value(s))
 }
 
 #[unsafe(no_mangle)]
 pub extern "C" fn msft_var_help_context(s: &[u8], at: usize, len: usize) -> i64
     ensures { result ≡ reply (bits32 (var_attribute "HelpContext" s.now at len)) }
 {
-    reply::of(VarRecord { at, len }.help_context(s))
+    reply::of_told(VarRecord { at, len }.help_context(s))
 }
 
 // The offset of its help string in the string table.
@@ -93,14 +93,14 @@ pub extern "C" fn msft_var_help_context(s: &[u8], at: usize, len: usize) -> i64
 pub extern "C" fn msft_var_help_string_offset(s: &[u8], at: usize, len: usize) -> i64
     ensures { result ≡ reply (bits32 (var_attribute "HelpString" s.now at len)) }
 {
-    reply::of(VarRecord { at, len }.help_string_offset(s))
+    reply::of_told(VarRecord { at, len }.help_string_offset(s))
 }
 
 #[unsafe(no_mangle)]
 pub extern "C" fn msft_var_res9(s: &[u8], at: usize, len: usize) -> i64
     ensures { result ≡ reply (bits32 (var_attribute "res9" s.now at len)) }
 {
-    reply::of(VarRecord { at, len }.res9(s))
+    reply::of_told(VarRecord { at, len }.res9(s))
 }
 
 // The offset of its custom data in their directory.
@@ -108,12 +108,12 @@ pub extern "C" fn msft_var_res9(s: &[u8], at: usize, len: usize) -> i64
 pub extern "C" fn msft_var_cust_data_offset(s: &[u8], at: usize, len: usize) -> i64
     ensures { result ≡ reply (bits32 (var_attribute "oCustData" s.now at len)) }
 {
-    reply::of(VarRecord { at, len }.cust_data_offset(s))
+    reply::of_told(VarRecord { at, len }.cust_data_offset(s))
 }
 
 #[unsafe(no_mangle)]
 pub extern "C" fn msft_var_helpstringcontext(s: &[u8], at: usize, len: usize) -> i64
     ensures { result ≡ reply (bits32 (var_attribute "HelpStringContext" s.now at len)) }
 {
-    reply::of(VarRecord { at, len }.helpstringcontext(s))
+    reply::of_told(VarRecord { at, len }.helpstringcontext(s))
 }

@@ -3,3 +3,5 @@
 #![tactic(auto)]
 
 pub mod reply;
+#[cfg(test)]
+mod tests;

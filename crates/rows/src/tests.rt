@@ -29,8 +29,10 @@ fn an_answer_is_laid_as_its_row(rt: HostRuntime) {
         minor: 40,
     };
     assert!(rt; matches!(of(Ok(version)), Ok(Row::Words(2, 40))));
+    assert!(rt; matches!(version.row(), Row::Words(2, 40)));
     let place = Place { at: 84, len: 100 };
     assert!(rt; matches!(of(Ok(place)), Ok(Row::Plain(Longs::Two(84, 100)))));
+    assert!(rt; matches!(place.row(), Row::Plain(Longs::Two(84, 100))));
     let info = ImpInfo { at: 600, len: 12 };
     let unnamed = ResolvedHreftype::External(info, Err(Refusal::NothingThere));
     assert!(rt;

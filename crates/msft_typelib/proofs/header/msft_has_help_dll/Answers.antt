@@ -8,4 +8,4 @@ use Rattle.typelib.specs.Header.{header_field, help_dll_flag}
 use Rattle.msft_typelib.proofs.header.msft_has_help_dll.Goals as goal
 
 pub returns : goal.returns
-returns c = c.of.ensures ∙ ap reply (library-read (λ a. truth (told a)) (λ _. truth (map (flag_set help_dll_flag) (header_field "varflags" c.args.s.now))) c.args.s.now c.parse.result c.parse.ensures c.and_then.ensures (λ lib h. ap truth (search of_calls)) (λ e. refl))
+returns c = c.of_told.ensures ∙ ap reply (library-read (λ a. truth (told a)) (λ _. truth (map (flag_set help_dll_flag) (header_field "varflags" c.args.s.now))) c.args.s.now c.parse.result c.parse.ensures c.and_then.ensures (λ lib h. ap truth (search of_calls)) (λ e. refl))

@@ -7,4 +7,4 @@ use Rattle.typelib.specs.Header.{header_field}
 use Rattle.msft_typelib.proofs.header.msft_helpcontext.Goals as goal
 
 pub returns : goal.returns
-returns c = c.of.ensures ∙ ap reply (library-read (λ a. bits32 (told a)) (λ _. bits32 (signed32 (header_field "helpcontext" c.args.s.now))) c.args.s.now c.parse.result c.parse.ensures c.and_then.ensures (λ lib h. ap bits32 (search of_calls)) (λ e. refl))
+returns c = c.of_told.ensures ∙ ap reply (library-read (λ a. bits32 (told a)) (λ _. bits32 (signed32 (header_field "helpcontext" c.args.s.now))) c.args.s.now c.parse.result c.parse.ensures c.and_then.ensures (λ lib h. ap bits32 (search of_calls)) (λ e. refl))

@@ -6,4 +6,4 @@ use Rattle.typelib.specs.Header.{header_field}
 use Rattle.msft_typelib.proofs.header.msft_lcid.Goals as goal
 
 pub returns : goal.returns
-returns c = c.of.ensures ∙ ap reply (library-read told (λ _. header_field "lcid" c.args.s.now) c.args.s.now c.parse.result c.parse.ensures c.and_then.ensures (λ lib h. search of_calls) (λ e. refl))
+returns c = c.of_told.ensures ∙ ap reply (library-read told (λ _. header_field "lcid" c.args.s.now) c.args.s.now c.parse.result c.parse.ensures c.and_then.ensures (λ lib h. search of_calls) (λ e. refl))
