@@ -37,7 +37,7 @@ pub trait ReplyTold: Copy {
     ghost refuses: { (n : ℕ) → replied (refused n) ≡ refused n };
 }
 
-// Of an answer that a `Refusal` refuses, what is replied of what it tells.
+// An answer with a `Refusal` is replied by what it tells.
 impl<T: ReplyTold> Reply for T {
     ghost answer = { λ a. T.replied (told a) };
 

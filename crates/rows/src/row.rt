@@ -48,7 +48,7 @@ pub trait Laid: Copy {
         ensures { bytes_of result ≡ bytes self };
 }
 
-// The same of a value in which a file may be refused with more than a `Refusal`.
+// The same, whatever refuses the file in the value.
 pub trait LaidWithin: Copy {
     // What the file in the value is refused with; a `Refusal` if it holds no file.
     type FileRefusal: Refuses;
@@ -59,7 +59,7 @@ pub trait LaidWithin: Copy {
         ensures { bytes_of_as Self.FileRefusal.number result ≡ bytes self };
 }
 
-// Where that is a `Refusal`, the value is laid as any other.
+// Where `FileRefusal` is `Refusal`, a value is `Laid`, with the same row.
 impl<T: LaidWithin<FileRefusal = Refusal>> Laid for T {
     ghost bytes = { T.bytes };
 
